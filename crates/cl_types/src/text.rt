@@ -1,0 +1,72 @@
+ghost use Rattle.std.specs.Prelude.{◌≡◌, [], ◌↔◌, IsTrue, IfOk};
+ghost use Rattle.std.specs.Ordering.{nat_cmp, as_partial_cmp, is_eq};
+ghost use Rattle.std.specs.Cmp.Lexicographic.{slice_cmp};
+
+use crate::copies::Copies;
+use crate::memory::NoMemory;
+use crate::same::Same;
+use std::alloc::Global;
+use std::marker::Model;
+
+/// Bytes, as they came. They need not be UTF-8.
+#[derive(Debug, Drop)]
+pub struct Text {
+    bytes: Vec<u8>,
+}
+
+impl Model for Text {
+    ghost use Rattle.std.specs.Prelude.{List, ℕ};
+
+    ghost Value = { List ℕ };
+
+    ghost view = { λ t. t.bytes.items };
+}
+
+impl Text {
+    ghost use Rattle.std.specs.Borrow.{Lends, sem};
+    ghost use Rattle.cl_types.specs.contracts.text.Text.{the_row};
+    ghost use Rattle.cl_types.specs.Rows.{bytes_row};
+
+    /// Keeps the bytes that it is given.
+    pub fn of(bytes: Vec<u8>) -> Text
+        ensures { result ≡ bytes.items }
+    {
+        Text { bytes }
+    }
+
+    /// The empty text. It takes no memory.
+    pub fn new(alloc: Global) -> Text
+        ensures { result ≡ [] }
+    {
+        Text {
+            bytes: Vec::new(alloc),
+        }
+    }
+
+    pub fn as_slice(&self) -> &[u8]
+        ensures { result.now ≡ self.now }
+    {
+        self.bytes.as_slice()
+    }
+
+    /// The vector of the bytes, for changing it.
+    pub fn vec_mut(&mut self) -> &mut Vec<u8>
+        ensures* writes_back { sem 𝓛 (Lends the_row bytes_row self.entry result (λ w. w.items)) }
+        ensures value { result.now.items ≡ self.old }
+    {
+        &mut self.bytes
+    }
+}
+
+impl Copies for Text {
+    fn copy(&self) -> Result<Text, NoMemory> {
+        let bytes = Vec::from_slice(*self.bytes.allocator(), self.bytes.as_slice())?;
+        Ok(Text { bytes })
+    }
+}
+
+impl Same for Text {
+    fn same(&self, other: &Text) -> bool {
+        self.bytes.as_slice() == other.bytes.as_slice()
+    }
+}
