@@ -3,16 +3,23 @@
 
 mod addr;
 mod copies;
+mod keys;
 mod list;
 mod memory;
 mod prefix;
 mod same;
 mod text;
+mod traffic;
 
 pub use addr::Addr;
 pub use copies::Copies;
+pub use keys::{Dir, PodKey, PolicyKey, PolicyKind, RuleKey, rule_cmp};
 pub use list::List;
 pub use memory::NoMemory;
 pub use prefix::Prefix;
 pub use same::Same;
 pub use text::Text;
+pub use traffic::{
+    Action, AgentOrder, Cause, Judged, Masked, NamedPort, Packet, PortName, Proto, Question, Rev,
+    Service, Stream, Verdict,
+};
