@@ -1,3 +1,5 @@
+pub mod Ascending
+pub mod Equality
 pub mod Judgement
 pub mod PolicyName
 pub mod Prefix

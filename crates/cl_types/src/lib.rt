@@ -3,6 +3,7 @@
 
 mod addr;
 mod copies;
+mod keyed;
 mod keys;
 mod list;
 mod memory;
@@ -13,6 +14,7 @@ mod traffic;
 
 pub use addr::Addr;
 pub use copies::Copies;
+pub use keyed::{Keyed, find, put, search};
 pub use keys::{Dir, PodKey, PolicyKey, PolicyKind, RuleKey, rule_cmp};
 pub use list::List;
 pub use memory::NoMemory;
