@@ -1,5 +1,6 @@
 pub mod Ascending
 pub mod Equality
+pub mod EqualityLaws
 pub mod Judgement
 pub mod PolicyName
 pub mod Prefix

@@ -3,6 +3,7 @@
 
 mod addr;
 mod copies;
+mod equality;
 mod keyed;
 mod keys;
 mod list;
