@@ -1,5 +1,5 @@
 -- The tests of equality hold exactly where the two are one.
-use Rattle.std.proofs.Common.{◌≡◌, ℕ, List, Bool, true, false, ◌&&◌, ◌==◌, refl, ap, sym, ◌∙◌, arith, rules, IsTrue}
+use Rattle.std.proofs.Common.{◌≡◌, ℕ, List, Bool, true, false, ◌&&◌, ◌==◌, refl, ap, sym, subst, ◌∙◌, ◌↔◌, arith, IsTrue}
 use base.Stored.{Gv, gnil, gnum, gcons, Coded}
 use Rattle.std.proofs.lemmas.Bool.Decides.{nat_tests}
 use Rattle.cl_types.specs.Equality.{stored_eq, is_same}
@@ -35,3 +35,12 @@ is_same-itself coded x = stored_eq-itself (coded.code x)
 pub is_same-one : {T : Type 0} (coded : Coded T) (x y : T) → is_same coded x y ≡ true → x ≡ y
 unfolding is_same
 is_same-one coded x y h = coded.inj x y (stored_eq-one _ _ h)
+
+-- a test that holds exactly where the two are one answers as this one does
+pub is_same-decided : {T : Type 0} (coded : Coded T) (x y : T) (b : Bool) → (IsTrue b ↔ (x ≡ y)) → b ≡ is_same coded x y
+is_same-decided coded x y true one = sym (subst (λ z. is_same coded x z ≡ true) (one.0 refl) (is_same-itself coded x))
+is_same-decided coded x y false one = decided (is_same coded x y) refl
+  where
+    decided : (r : Bool) → is_same coded x y ≡ r → false ≡ r
+    decided true is = one.1 (is_same-one coded x y is)
+    decided false is = refl

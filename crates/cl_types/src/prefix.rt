@@ -1,4 +1,9 @@
+ghost use Rattle.std.specs.Prelude.{◌≡◌, ◌↔◌, IsTrue, IfOk};
+
 use crate::addr::Addr;
+use crate::copies::Copies;
+use crate::memory::NoMemory;
+use crate::same::Same;
 use std::marker::Model;
 
 /// A block of addresses: those that agree with `base` in the first `len` bits.
@@ -19,4 +24,16 @@ impl Model for Prefix {
     ghost invariant = { λ p. IsBlock p.base p.len };
 
     ghost inverse = { λ b. record { base = b.base; len = b.len } };
+}
+
+impl Copies for Prefix {
+    fn copy(&self) -> Result<Prefix, NoMemory> {
+        Ok(*self)
+    }
+}
+
+impl Same for Prefix {
+    fn same(&self, other: &Prefix) -> bool {
+        self == other
+    }
 }
