@@ -1,15 +1,21 @@
 -- Groups of pods (this project's own keys of Antrea's address groups and applied-to groups).
-use Rattle.std.specs.Prelude.{ℕ, List, Bool, ◌&&◌}
+use Rattle.std.specs.Prelude.{ℕ, List, Bool, ◌&&◌, IsTrue}
 use Rattle.cl_types.specs.Equality.{text_eq}
 use Rattle.label_select.specs.declared.labels.Label.{Label}
 use Rattle.label_select.specs.declared.group.Scope.{Scope}
 use Rattle.label_select.specs.declared.group.Scope.TheVariants.{Namespace, Namespaces}
+use Rattle.label_select.specs.Forms.{is_namespace_name}
 use Rattle.label_select.specs.Selection.{Selection, selects}
 
 -- a group's key as plain data
 pub record Group : Type 0 where
   pub scope : Scope
   pub pods : Selection
+
+-- a scope by name has the form of a namespace's name
+abbrev pub IsScope : Scope → Type 0
+IsScope (Namespace name) = IsTrue (is_namespace_name name)
+IsScope (Namespaces selector) = Unit {0}
 
 -- whether a namespace with these labels is in the scope
 abbrev pub in_scope : Scope → List ℕ → List Label → Bool

@@ -1,8 +1,7 @@
 -- What a label selector selects (Kubernetes, labels and selectors).
-use Rattle.std.specs.Prelude.{ℕ, List, Bool, not, Option, option_map}
+use Rattle.std.specs.Prelude.{◌≡◌, ℕ, List, length, Bool, true, false, not, ◌==◌, IsTrue, Option, option_map}
 use Rattle.std.specs.List.{list_all, list_any}
 use Rattle.std.specs.Option.{option_map_or}
-use Rattle.std.specs.Prelude.{true, false}
 use Rattle.std.specs.Ordering.{nat_cmp}
 use Rattle.std.specs.Cmp.Lexicographic.{slice_cmp}
 use Rattle.cl_types.specs.Ascending.{found, put}
@@ -10,12 +9,26 @@ use Rattle.cl_types.specs.Equality.{text_eq}
 use Rattle.label_select.specs.declared.labels.Label.{Label}
 use Rattle.label_select.specs.declared.selector.Op.{Op}
 use Rattle.label_select.specs.declared.selector.Op.TheVariants.{OneOf, NoneOf, Present, Missing}
+use Rattle.label_select.specs.Forms.{is_label_key, is_label_value}
 
 -- a need as plain data
 pub record Requirement : Type 0 where
   pub key : List ℕ
   pub op : Op
   pub values : List (List ℕ)
+
+-- In and NotIn have values, Exists and DoesNotExist have none
+abbrev pub takes_values : Op → Bool
+takes_values OneOf = true
+takes_values NoneOf = true
+takes_values Present = false
+takes_values Missing = false
+
+-- what a need keeps: the forms of its key and its values, and values exactly where its operator takes them
+pub record IsNeed (need : Requirement) : Type 0 where
+  pub key_form : IsTrue (is_label_key need.key)
+  pub value_forms : IsTrue (list_all is_label_value need.values)
+  pub value_count : takes_values need.op ≡ not (length need.values == 0)
 
 -- a selector as plain data
 pub record Selection : Type 0 where

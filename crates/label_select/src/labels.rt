@@ -87,3 +87,17 @@ impl Labels {
         cl_types::put(self.labels.vec_mut(), Label { key, value })
     }
 }
+
+impl Copies for Labels {
+    fn copy(&self) -> Result<Labels, NoMemory> {
+        Ok(Labels {
+            labels: self.labels.copy()?,
+        })
+    }
+}
+
+impl Same for Labels {
+    fn same(&self, other: &Labels) -> bool {
+        self.labels.same(&other.labels)
+    }
+}

@@ -1,0 +1,2 @@
+pub mod CanonicalNeeds
+pub mod SortedSets
