@@ -1,4 +1,5 @@
 pub mod Ascending
+pub mod AscendingLaws
 pub mod Equality
 pub mod EqualityLaws
 pub mod Judgement

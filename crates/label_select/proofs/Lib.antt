@@ -1,2 +1,3 @@
 pub mod CanonicalNeeds
+pub mod SetLabels
 pub mod SortedSets

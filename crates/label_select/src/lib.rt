@@ -5,6 +5,7 @@ mod canonical;
 mod forms;
 mod group;
 mod labels;
+mod named;
 mod selector;
 
 pub use canonical::canon;

@@ -3,7 +3,7 @@ ghost use Rattle.std.specs.List.{list_any};
 ghost use Rattle.std.specs.Ordering.{as_partial_cmp, eq_by_cmp};
 ghost use Rattle.std.specs.Cmp.{partial_order_from_agreeing_total, partial_equiv_from_equiv, eq_by_cmp_equiv};
 ghost use Rattle.cl_types.specs.Equality.{text_eq};
-ghost use Rattle.label_select.specs.Selection.{takes_values, has_one_of, meets, selects};
+ghost use Rattle.label_select.specs.Selection.{meets_op, takes_values, has_one_of, meets, selects};
 ghost use Rattle.label_select.specs.Canonical.{op_place, need_order, need_order_total};
 
 use crate::labels::Labels;
@@ -66,7 +66,13 @@ impl Need {
     fn is_met(&self, labels: &Labels) -> bool
         ensures { result ≡ meets labels.now self.now }
     {
-        let value = labels.get(&self.key);
+        self.allows(labels.get(&self.key))
+    }
+
+    // Whether the value of its key, where the key is there, is as the need asks.
+    pub(crate) fn allows(&self, value: Option<&Text>) -> bool
+        ensures { result ≡ meets_op self.now.op (option_copied value.entry) self.now.values }
+    {
         match self.op {
             Op::OneOf => is_one_of(value, self.values.as_slice()),
             Op::NoneOf => !is_one_of(value, self.values.as_slice()),
