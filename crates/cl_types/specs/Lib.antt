@@ -4,3 +4,4 @@ pub mod Prefix
 pub mod Rows
 pub mod RuleOrder
 pub mod Traffic
+pub mod Written

@@ -10,6 +10,7 @@ mod prefix;
 mod same;
 mod text;
 mod traffic;
+mod writing;
 
 pub use addr::Addr;
 pub use copies::Copies;
@@ -23,3 +24,4 @@ pub use traffic::{
     Action, AgentOrder, Cause, Judged, Masked, NamedPort, Packet, PortName, Proto, Question, Rev,
     Service, Stream, Verdict,
 };
+pub use writing::{write_bytes, write_judged, write_number, write_pod, write_policy, write_rule};
