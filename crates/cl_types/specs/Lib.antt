@@ -1,6 +1,8 @@
+pub mod Addr
 pub mod Judgement
 pub mod PolicyName
 pub mod Prefix
+pub mod Reading
 pub mod Rows
 pub mod RuleOrder
 pub mod Traffic

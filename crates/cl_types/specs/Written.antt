@@ -14,6 +14,7 @@ use Rattle.cl_types.specs.declared.keys.PolicyKind.{PolicyKind}
 use Rattle.cl_types.specs.declared.keys.RuleKey.{RuleKey}
 use Rattle.cl_types.specs.declared.traffic.Verdict.{Verdict}
 use Rattle.cl_types.specs.declared.traffic.Verdict.TheVariants.{Allow, Drop, Reject}
+use Rattle.cl_types.specs.declared.writing.ZeroRun.{ZeroRun}
 use Rattle.cl_types.specs.Prefix.{Block}
 use Rattle.cl_types.specs.PolicyName.{PolicyName}
 use Rattle.cl_types.specs.Judgement.{Reason, by_rule, by_isolation, by_default, Judgement}
@@ -26,11 +27,6 @@ places (suc count) base n = places count base (n / base) ++ (n % base ∷ [])
 -- the eight groups of an IPv6 address
 abbrev pub groups_of : ℕ → List ℕ
 groups_of n = places 8 65536 n
-
--- some neighbouring groups that are zero
-pub record ZeroRun : Type 0 where
-  pub start : ℕ
-  pub len : ℕ
 
 -- how many groups at the front are zero
 abbrev pub zeros_at_front : List ℕ → ℕ
@@ -56,9 +52,13 @@ compressed gs =
     if nat_lt run.len 2 then hexadecimal_groups gs
     else (hexadecimal_groups (take run.start gs) ++ (codes "::" ++ hexadecimal_groups (drop (run.start + run.len) gs)))
 
+-- the four bytes in decimal, joined by dots
+abbrev pub dotted : ℕ → List ℕ
+dotted n = join_with_byte 46 (map decimal (to_be_bytes w32 n))
+
 -- four decimals joined by dots, or the text of RFC 5952
 abbrev pub address_text : Addr → List ℕ
-address_text (V4 n) = join_with_byte 46 (map decimal (to_be_bytes w32 n))
+address_text (V4 n) = dotted n
 address_text (V6 n) = compressed (groups_of n)
 
 -- address, `/` and length

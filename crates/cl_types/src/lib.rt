@@ -7,6 +7,7 @@ mod keys;
 mod list;
 mod memory;
 mod prefix;
+mod reading;
 mod same;
 mod text;
 mod traffic;
@@ -24,4 +25,4 @@ pub use traffic::{
     Action, AgentOrder, Cause, Judged, Masked, NamedPort, Packet, PortName, Proto, Question, Rev,
     Service, Stream, Verdict,
 };
-pub use writing::{write_bytes, write_judged, write_number, write_pod, write_policy, write_rule};
+pub use writing::{write_addr, write_prefix, write_bytes, write_judged, write_number, write_pod, write_policy, write_rule};

@@ -1,10 +1,13 @@
-ghost use Rattle.std.specs.Prelude.{◌≡◌, ◌≤◌, ◌<◌, ◌^◌, ◌++◌, false, OnOk, OnErr, take, length};
+ghost use Rattle.std.specs.Prelude.{◌≡◌, ◌≤◌, ◌<◌, ◌+◌, ◌^◌, ◌++◌, false, OnOk, OnErr, map, take, length};
 ghost use Rattle.std.specs.Fmt.{decimal, digits, digit_glyph};
-ghost use Rattle.cl_types.specs.Written.{Begins, pod_text, policy_text, direction_text, rule_text, verdict_text, reason_text, judged_text};
+ghost use Rattle.std.specs.List.{join_with_byte};
+ghost use Rattle.cl_types.specs.Written.{Begins, longest_run, compressed, groups_of, dotted, address_text, prefix_text, pod_text, policy_text, direction_text, rule_text, verdict_text, reason_text, judged_text};
 ghost use Rattle.cl_types.specs.Judgement.{judgement_of, reason_of};
 
+use crate::addr::Addr;
 use crate::keys::{Dir, PodKey, PolicyKey, PolicyKind, RuleKey};
 use crate::memory::NoMemory;
+use crate::prefix::Prefix;
 use crate::text::Text;
 use crate::traffic::{Cause, Judged, Verdict};
 
@@ -60,6 +63,125 @@ pub fn write_number(out: &mut Text, n: u64) -> Result<(), NoMemory>
 {
     let len = out.as_slice().len();
     let done = append_digits(out, n, 10);
+    undone(out, len, done)
+}
+
+// The digits of the parts, with the separator between each two.
+fn append_joined(
+    out: &mut Text,
+    parts: &[u16],
+    base: u64,
+    separator: u8,
+) -> Result<(), NoMemory>
+    requires low { 2 ≤ base }
+    requires high { base ≤ 16 }
+    ensures ok { OnOk result
+        (out.new ≡ out.old ++ join_with_byte separator (map (digits base false) parts.now)) }
+    ensures err { OnErr result (Begins out.old out.new) }
+{
+    for (i, part) in parts.iter().enumerate() {
+        if i > 0 {
+            write_bytes(out, &[separator])?;
+        }
+        append_digits(out, u64::from(*part), base)?;
+    }
+    Ok(())
+}
+
+// Neighbouring groups of an IPv6 address that are zero.
+#[derive(Clone, Copy)]
+struct ZeroRun {
+    start: usize,
+    len: usize,
+}
+
+fn longest_zero_run(groups: &[u16]) -> ZeroRun
+    ensures value { result ≡ longest_run 0 groups.now }
+    ensures within { result.start + result.len ≤ length groups.now }
+{
+    let mut start = groups.len();
+    let mut zeros = 0;
+    let mut longest = ZeroRun { start, len: 0 };
+    while start > 0 {
+        start -= 1;
+        zeros = if groups[start] == 0 { zeros + 1 } else { 0 };
+        if zeros >= longest.len {
+            longest = ZeroRun { start, len: zeros };
+        }
+    }
+    longest
+}
+
+fn append_compressed(out: &mut Text, groups: &[u16]) -> Result<(), NoMemory>
+    ensures ok { OnOk result (out.new ≡ out.old ++ compressed groups.now) }
+    ensures err { OnErr result (Begins out.old out.new) }
+{
+    let run = longest_zero_run(groups);
+    if run.len < 2 {
+        return append_joined(out, groups, 16, b':');
+    }
+    append_joined(out, &groups[..run.start], 16, b':')?;
+    write_bytes(out, b"::")?;
+    append_joined(out, &groups[run.start + run.len..], 16, b':')
+}
+
+fn split_groups(n: u128) -> [u16; 8]
+    ensures { result ≡ groups_of n }
+{
+    let mut groups = [0u16; 8];
+    let mut rest = n;
+    for i in 0..8 {
+        groups[7 - i] = (rest % 65536) as u16;
+        rest /= 65536;
+    }
+    groups
+}
+
+fn append_dotted(out: &mut Text, n: u32) -> Result<(), NoMemory>
+    ensures ok { OnOk result (out.new ≡ out.old ++ dotted n) }
+    ensures err { OnErr result (Begins out.old out.new) }
+{
+    let [a, b, c, d] = n.to_be_bytes();
+    let octets = [u16::from(a), u16::from(b), u16::from(c), u16::from(d)];
+    append_joined(out, &octets, 10, b'.')
+}
+
+fn append_addr(out: &mut Text, a: Addr) -> Result<(), NoMemory>
+    ensures ok { OnOk result (out.new ≡ out.old ++ address_text a) }
+    ensures err { OnErr result (Begins out.old out.new) }
+{
+    match a {
+        Addr::V4(n) => append_dotted(out, n),
+        Addr::V6(n) => append_compressed(out, &split_groups(n)),
+    }
+}
+
+/// Appends the address: four decimals joined by dots, or the text of RFC 5952.
+pub fn write_addr(out: &mut Text, a: Addr) -> Result<(), NoMemory>
+    ensures ok { OnOk result (out.new ≡ out.old ++ address_text a) }
+    ensures err { OnErr result (out.new ≡ out.old) }
+{
+    let len = out.as_slice().len();
+    let done = append_addr(out, a);
+    undone(out, len, done)
+}
+
+fn append_prefix(out: &mut Text, p: &Prefix) -> Result<(), NoMemory>
+    ensures ok { OnOk result (out.new ≡ out.old ++ prefix_text p.now) }
+    ensures err { OnErr result (Begins out.old out.new) }
+{
+    write_addr(out, p.base)?;
+    write_bytes(out, b"/")?;
+    write_number(out, u64::from(p.len))
+}
+
+/// Appends the block's address, `/` and its length.
+pub fn write_prefix(out: &mut Text, p: &Prefix) -> Result<(), NoMemory>
+    ensures ok { OnOk result (out.new ≡ out.old ++ prefix_text p.now) }
+    ensures err { OnErr result (out.new ≡ out.old) }
+{
+    let len = out.as_slice().len();
+    let done = append_prefix(out, p);
     undone(out, len, done)
 }
 
