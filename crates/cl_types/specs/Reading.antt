@@ -1,12 +1,13 @@
 -- The texts that are read as addresses and prefixes (RFC 4291's forms for IPv6, without zones and without a
 -- dotted tail; no leading zeros in decimals).
-use Rattle.std.specs.Prelude.{◌≡◌, ℕ, ◌+◌, ◌-◌, ◌*◌, ◌^◌, ◌<◌, ◌≤◌, List, [], ◌∷◌, ◌++◌, length, replicate, ◌⊎◌, codes}
+use Rattle.std.specs.Prelude.{◌≡◌, ℕ, ◌+◌, ◌-◌, ◌*◌, ◌^◌, ◌<◌, ◌≤◌, List, [], ◌∷◌, ◌++◌, length, replicate, ◌⊎◌, codes, All, ◌≢◌}
 use Rattle.std.specs.Fmt.{decimal}
-use Rattle.std.specs.Int.Digits.{number_from_digits}
+use Rattle.std.specs.Int.Digits.{number_from_digits, number_from_digits_after}
 use Rattle.std.specs.Str.Parse.{AllDigits, digits_value}
 use Rattle.cl_types.specs.declared.addr.Addr.{Addr}
 use Rattle.cl_types.specs.declared.addr.Addr.TheVariants.{V4, V6}
 use Rattle.cl_types.specs.declared.reading.Family.{Family}
+use Rattle.cl_types.specs.declared.reading.Parts.{Parts}
 use Rattle.cl_types.specs.declared.reading.Family.TheVariants.{Dotted, Colons}
 use Rattle.cl_types.specs.Addr.{width_of}
 use Rattle.cl_types.specs.Prefix.{Block, cleared}
@@ -83,3 +84,29 @@ pub record IsPrefix (text : List ℕ) (block : Block) : Type 0 where
   pub form : IsAddress address_text address
   pub len : block.len ≤ width_of address
   pub base : block.base ≡ cleared address block.len
+
+-- no byte of the text is this one
+abbrev pub Lacks : ℕ → List ℕ → Type 0
+Lacks byte text = All (λ b. b ≢ byte) text
+
+-- nowhere two colons in a row
+abbrev pub HasNoGap : List ℕ → Type 0
+HasNoGap [] = Unit {0}
+HasNoGap (a ∷ []) = Unit {0}
+HasNoGap (a ∷ b ∷ text) = (a ≡ 58 → b ≢ 58) × HasNoGap (b ∷ text)
+
+-- the number of some parts
+pub record IsNumber (f : Family) (parts : Parts) (ns : List ℕ) : Type 0 where
+  pub count : parts.count ≡ length ns
+  pub number : parts.number ≡ number_from_digits (base_of f) ns
+  pub below : parts.number < base_of f ^ parts.count
+
+-- the parts before, followed by those of the text
+pub record Continues (f : Family) (before : Parts) (text : List ℕ) (parts : Parts) : Type 0 where
+  pub ns : List ℕ
+  pub some : 1 ≤ length ns
+  pub form : IsParts f text ns
+  pub count : parts.count ≡ before.count + length ns
+  pub few : parts.count ≤ 8
+  pub number : parts.number ≡ number_from_digits_after (base_of f) before.number ns
+  pub below : parts.number < base_of f ^ parts.count

@@ -19,10 +19,14 @@ pub use keys::{Dir, PodKey, PolicyKey, PolicyKind, RuleKey, rule_cmp};
 pub use list::List;
 pub use memory::NoMemory;
 pub use prefix::Prefix;
+pub use reading::{BadAddr, BadPrefix, read_addr, read_prefix};
 pub use same::Same;
 pub use text::Text;
 pub use traffic::{
     Action, AgentOrder, Cause, Judged, Masked, NamedPort, Packet, PortName, Proto, Question, Rev,
     Service, Stream, Verdict,
 };
-pub use writing::{write_addr, write_prefix, write_bytes, write_judged, write_number, write_pod, write_policy, write_rule};
+pub use writing::{
+    write_addr, write_bytes, write_judged, write_number, write_pod, write_policy, write_prefix,
+    write_rule,
+};

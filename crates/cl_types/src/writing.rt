@@ -67,12 +67,7 @@ pub fn write_number(out: &mut Text, n: u64) -> Result<(), NoMemory>
 }
 
 // The digits of the parts, with the separator between each two.
-fn append_joined(
-    out: &mut Text,
-    parts: &[u16],
-    base: u64,
-    separator: u8,
-) -> Result<(), NoMemory>
+fn append_joined(out: &mut Text, parts: &[u16], base: u64, separator: u8) -> Result<(), NoMemory>
     requires low { 2 ≤ base }
     requires high { base ≤ 16 }
     ensures ok { OnOk result
