@@ -22,10 +22,10 @@ next_fits b i n ds high all e h =
     let small : digits_value b (take i ds) < 16 ^ 3 = small_value b 3 (take i ds) high all (omega (arith, length-take i ds)) in
     omega (arith, mul-le n b 4095 16 (omega arith) high)
 
-pub digit_in : (b : ℕ) (ds : List ℕ) (i : ℕ) → AllDigits b ds → i < length ds → digit_value (get_or ds i 0) < b
-digit_in b [] i all h = absurd (omega arith)
-digit_in b (d ∷ ds) zero all h = all.0
-digit_in b (d ∷ ds) (suc i) all h = digit_in b ds i all.1 (omega arith)
+pub digit_in : (b : ℕ) (ds : List ℕ) (i d : ℕ) → AllDigits b ds → i < length ds → digit_value (get_or ds i d) < b
+digit_in b [] i e all h = absurd (omega arith)
+digit_in b (d ∷ ds) zero e all h = all.0
+digit_in b (d ∷ ds) (suc i) e all h = digit_in b ds i e all.1 (omega arith)
 
 own : IsNumeralModel (AllDigits 10) (digits_value 10)
 own = numerals_by_value (AllDigits 10) tells_digits

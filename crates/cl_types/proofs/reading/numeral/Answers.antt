@@ -16,7 +16,7 @@ overflow_add-n c =
 
 pub returns-in_err-n-clause-none : goal.returns-in_err-n-clause-none
 returns-in_err-n-clause-none c =
-    rw c.from_residual.ensures (λ all. c.in_err-n.ensures.value (omega (arith, c.from.ensures, ap digit_value c.from.ensures, digit_in c.args.base c.args.text.now c.loop-b.b-index all (omega arith))))
+    rw c.from_residual.ensures (λ all. c.in_err-n.ensures.value (omega (arith, c.from.ensures, ap digit_value c.from.ensures, digit_in c.args.base c.args.text.now c.loop-b.b-index 0 all (omega arith))))
 
 pub loop-b-preserved : goal.loop-b-preserved
 loop-b-preserved c =
