@@ -2,6 +2,7 @@
 use Rattle.std.proofs.Common.{◌≡◌, ◌≢◌, ℕ, zero, suc, ◌+◌, ◌*◌, ◌^◌, ◌<◌, ◌≤◌, List, [], ◌∷◌, ◌++◌, length, length-append, get_or, refl, sym, ap, ◌∙◌, subst, add-one, arith}
 use Rattle.std.proofs.Math.Nat.{pow-suc, pow-le-pow_left, pow-le-pow_right}
 use Rattle.std.proofs.lemmas.Nat.{mul-add-lt}
+use Rattle.std.proofs.lemmas.List.Elements.{All-append}
 use Rattle.std.specs.List.{All}
 use Rattle.std.specs.Str.Parse.{AllDigits, digits_value}
 use Rattle.std.specs.Char.{digit_value}
@@ -10,7 +11,7 @@ use Rattle.cl_types.specs.declared.reading.Family.TheVariants.{Dotted, Colons}
 use Rattle.cl_types.specs.Reading.{separator_of, base_of, IsPart, IsParts, IsOctet, IsGroup, Lacks}
 use Rattle.cl_types.proofs.Numerals.{octet_form, digit_in, small_value}
 
-lacks_tail : (s x : ℕ) (xs : List ℕ) → Lacks s (x ∷ xs) → Lacks s xs
+pub lacks_tail : (s x : ℕ) (xs : List ℕ) → Lacks s (x ∷ xs) → Lacks s xs
 lacks_tail s x xs lacks = λ k d h. lacks (suc k) d (omega arith)
 
 -- what stands before the first separator, and what after it
@@ -34,9 +35,25 @@ lacks_no_cut s (t ∷ ts) (a ∷ as') x lacks e =
 digits_lack : (b s : ℕ) (t : List ℕ) → b ≤ digit_value s → AllDigits b t → Lacks s t
 digits_lack b s t high all = λ k d h e. omega (arith, digit_in b t k d all h, ap digit_value e)
 
+-- a part has no byte that is no digit
+pub part_lacks_other : (f : Family) (s : ℕ) (t : List ℕ) (n : ℕ) → 36 ≤ digit_value s → IsPart f t n → Lacks s t
+part_lacks_other Dotted s t n other p = digits_lack 10 s t (omega arith) (octet_form t n p).digits
+part_lacks_other Colons s t n other p = digits_lack 16 s t (omega arith) p.digits
+
 pub part_lacks : (f : Family) (t : List ℕ) (n : ℕ) → IsPart f t n → Lacks (separator_of f) t
-part_lacks Dotted t n p = digits_lack 10 46 t (omega arith) (octet_form t n p).digits
-part_lacks Colons t n p = digits_lack 16 58 t (omega arith) p.digits
+part_lacks Dotted t n p = part_lacks_other Dotted 46 t n (omega arith) p
+part_lacks Colons t n p = part_lacks_other Colons 58 t n (omega arith) p
+
+pub lacks_cons : (s x : ℕ) (xs : List ℕ) → x ≢ s → Lacks s xs → Lacks s (x ∷ xs)
+lacks_cons s x xs ne lacks zero d h = ne
+lacks_cons s x xs ne lacks (suc k) d h = lacks k d (omega arith)
+
+pub parts_lack : (f : Family) (s : ℕ) (t : List ℕ) (ns : List ℕ) → 36 ≤ digit_value s → separator_of f ≢ s → IsParts f t ns → Lacks s t
+parts_lack f s t [] other ne p = λ k d h e. omega (arith, ap length p)
+parts_lack f s t (n ∷ []) other ne p = part_lacks_other f s t n other p
+parts_lack f s t (n ∷ m ∷ ns) other ne p =
+    let rest = parts_lack f s p.1 (m ∷ ns) other ne p.4 in
+    subst (Lacks s) (sym p.2) (All-append (λ b. b ≢ s) p.0 (separator_of f ∷ p.1) (part_lacks_other f s p.0 n other p.3) (lacks_cons s (separator_of f) p.1 ne rest))
 
 pub part_some : (f : Family) (t : List ℕ) (n : ℕ) → IsPart f t n → 1 ≤ length t
 part_some Dotted t n p = (octet_form t n p).some

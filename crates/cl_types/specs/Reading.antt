@@ -98,6 +98,7 @@ HasNoGap (a ∷ b ∷ text) = (a ≡ 58 → b ≢ 58) × HasNoGap (b ∷ text)
 -- the number of some parts
 pub record IsNumber (f : Family) (parts : Parts) (ns : List ℕ) : Type 0 where
   pub count : parts.count ≡ length ns
+  pub few : parts.count ≤ 8
   pub number : parts.number ≡ number_from_digits (base_of f) ns
   pub below : parts.number < base_of f ^ parts.count
 
