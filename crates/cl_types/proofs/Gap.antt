@@ -33,10 +33,10 @@ has_gap (a ∷ as') b none = has_gap as' b (gap_tail a (as' ++ 58 ∷ 58 ∷ b) 
 -- the first gap is in one place
 pub gap_unique : (a c b d : List ℕ) → HasNoGap (a ++ 58 ∷ []) → HasNoGap (c ++ 58 ∷ []) → a ++ 58 ∷ 58 ∷ b ≡ c ++ 58 ∷ 58 ∷ d → (a ≡ c) × (b ≡ d)
 gap_unique [] [] b d ha hc e = (refl, cc)
-gap_unique [] (c ∷ []) b d ha hc e = absurd (hc.0 cc refl)
-gap_unique [] (c ∷ c' ∷ cs) b d ha hc e = absurd (hc.0 cc cc)
-gap_unique (a ∷ []) [] b d ha hc e = absurd (ha.0 cc refl)
-gap_unique (a ∷ a' ∷ as') [] b d ha hc e = absurd (ha.0 cc cc)
+gap_unique [] (c ∷ []) b d ha hc e = absurd (hc.0 (cc) refl)
+gap_unique [] (c ∷ c' ∷ cs) b d ha hc e = absurd (hc.0 (cc) (cc))
+gap_unique (a ∷ []) [] b d ha hc e = absurd (ha.0 (cc) refl)
+gap_unique (a ∷ a' ∷ as') [] b d ha hc e = absurd (ha.0 (cc) (cc))
 gap_unique (a ∷ as') (c ∷ cs) b d ha hc e =
     let heads : a ≡ c = cc in
     let tails : as' ++ 58 ∷ 58 ∷ b ≡ cs ++ 58 ∷ 58 ∷ d = cc in

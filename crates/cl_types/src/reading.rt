@@ -1,4 +1,4 @@
-ghost use Rattle.std.specs.Prelude.{◌≡◌, ◌≢◌, ℕ, ◌+◌, ◌*◌, ◌^◌, ◌<◌, ◌≤◌, List, [], ◌∷◌, ◌++◌, length, IfSome, IfNone, IfOk, IfErr, codes};
+ghost use Rattle.std.specs.Prelude.{◌≡◌, ◌≢◌, ℕ, ◌+◌, ◌-◌, ◌*◌, ◌^◌, ◌<◌, ◌≤◌, List, [], ◌∷◌, ◌++◌, length, IfSome, IfNone, IfOk, IfErr, codes};
 ghost use Rattle.std.specs.Int.Digits.{number_from_digits};
 ghost use Rattle.std.specs.Str.Parse.{AllDigits, digits_value};
 ghost use Rattle.cl_types.specs.declared.addr.Addr.{Addr};
@@ -208,12 +208,22 @@ fn read_shortened(text: &[u8]) -> Option<u128>
     let front = all_parts(Family::Colons, front)?;
     let back = all_parts(Family::Colons, back)?;
     if front.count + back.count < 8 {
-        // The gap is one group at least.
-        let high = front.number << (16 * (7 - front.count)) << 16;
-        Some(high + back.number)
+        Some(around_gap(front, back))
     } else {
         None
     }
+}
+
+// The groups in front highest, the groups behind lowest, and zeros between.
+fn around_gap(front: Parts, back: Parts) -> u128
+    requires gap { front.count + back.count < 8 }
+    requires front_below { front.number < 65536 ^ front.count }
+    requires back_below { back.number < 65536 ^ back.count }
+    ensures { result ≡ front.number * 65536 ^ (8 - front.count) + back.number }
+{
+    // The gap is one group at least.
+    let high = front.number << (16 * (7 - front.count)) << 16;
+    high + back.number
 }
 
 /// The address that the text is a form of. It takes no memory.
