@@ -10,8 +10,10 @@ use Rattle.std.proofs.lemmas.List.Elements.{All-append}
 use Rattle.cl_types.specs.declared.addr.Addr.{Addr}
 use Rattle.cl_types.specs.declared.addr.Addr.TheVariants.{V4, V6}
 use Rattle.cl_types.specs.declared.reading.Family.TheVariants.{Dotted, Colons}
-use Rattle.cl_types.specs.Reading.{IsParts, IsFull, IsShortened, IsDotted, IsAddress, Lacks, HasNoGap}
-use Rattle.cl_types.proofs.Parts.{parts_unique, parts_lack, lacks_cons, lacks_no_cut}
+use Rattle.cl_types.specs.Reading.{IsParts, IsFull, IsShortened, IsDotted, IsOctet, IsAddress, IsPrefix, Lacks, HasNoGap}
+use Rattle.cl_types.specs.Addr.{width_of}
+use Rattle.cl_types.specs.Prefix.{Block, cleared}
+use Rattle.cl_types.proofs.Parts.{parts_unique, parts_lack, lacks_cons, lacks_no_cut, cut_unique}
 use Rattle.cl_types.proofs.Gap.{parts_gap, parts_no_gap, has_gap, gap_unique}
 
 full_full : (t : List ℕ) (m n : ℕ) → IsFull t m → IsFull t n → m ≡ n
@@ -106,3 +108,26 @@ around_fits n c m d gap nb mb =
     let wide : 65536 ^ (8 - c) * 65536 ^ c ≡ 2 ^ 128 = sym (pow-add 65536 (8 - c) c) ∙ ap (λ k. 65536 ^ k) all in
     let rest : m < 65536 ^ (8 - c) = omega (arith, pow-le-pow_right {n = 65536} (omega arith) {i = d} {j = 8 - c} (omega arith)) in
     omega (arith, mul-add-lt n (65536 ^ (8 - c)) m (65536 ^ c) nb rest)
+
+-- the two sides of the slash
+pub record Sides (address len : List ℕ) (p : Block) : Type 0 where
+  pub a : Addr
+  pub form : IsAddress address a
+  pub below : p.len ≤ width_of a
+  pub octet : IsOctet len p.len
+  pub base : p.base ≡ cleared a p.len
+
+width_small : (a : Addr) → width_of a < 256
+width_small (V4 n) = omega arith
+width_small (V6 n) = omega arith
+
+pub prefix_sides : (text address len : List ℕ) (p : Block) → text ≡ address ++ 47 ∷ len → Lacks 47 address → IsPrefix text p → Sides address len p
+prefix_sides text address len p whole first o =
+    let same = cut_unique 47 o.address_text address (decimal p.len) len (address_lacks o.address_text o.address o.form) first (sym o.whole ∙ whole) in
+    record {
+      a = o.address;
+      form = subst (λ (x : List ℕ). IsAddress x o.address) same.0 o.form;
+      below = o.len;
+      octet = record { below = omega (arith, o.len, width_small o.address); value = sym same.1 };
+      base = o.base;
+    }

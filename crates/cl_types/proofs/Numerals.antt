@@ -47,9 +47,9 @@ decimal_form n small =
       digits = numeral.0.1;
       value = numeral.1;
       plain = λ z. ⊎_elim
-        (λ none. omega (arith, ap length (decimal_digit n (omega arith))))
-        (λ some. absurd (omega (arith, first_decimal n some (omega arith))))
-        (cases_lt n 1)
+          (λ none. omega (arith, ap length (decimal_digit n (omega arith))))
+          (λ some. absurd (omega (arith, first_decimal n some (omega arith))))
+          (cases_lt n 1);
     }
 
 pub octet_form : (text : List ℕ) (n : ℕ) → IsOctet text n → OctetForm text n
@@ -58,5 +58,5 @@ octet_form text n o = subst (λ (t : List ℕ). OctetForm t n) (sym o.value) (de
 pub octet_from_form : (text : List ℕ) (n : ℕ) → 1 ≤ length text → AllDigits 10 text → n ≡ digits_value 10 text → (get_or text 0 0 ≡ 48 → length text ≤ 1) → n < 256 → IsOctet text n
 octet_from_form text n some all e plain small = record {
   below = small;
-  value = sym (ap decimal e ∙ decimal-digits_value own text all some (λ z. omega (arith, plain z)) (omega arith))
+  value = sym (ap decimal e ∙ decimal-digits_value own text all some (λ z. omega (arith, plain z)) (omega arith));
 }

@@ -109,9 +109,12 @@ first_part f t first rest (n ∷ []) e lacks some p = absurd (lacks_no_cut (sepa
 first_part f t first rest (n ∷ m ∷ ns) e lacks some p =
     let same = cut_unique (separator_of f) p.0 first p.1 rest (part_lacks f p.0 n p.3) lacks (sym p.2 ∙ e) in
     record {
-      n = n; ms = m ∷ ns; whole = refl; some = omega arith;
+      n = n;
+      ms = m ∷ ns;
+      whole = refl;
+      some = omega arith;
       part = subst (λ (x : List ℕ). IsPart f x n) same.0 p.3;
-      parts = subst (λ (x : List ℕ). IsParts f x (m ∷ ns)) same.1 p.4
+      parts = subst (λ (x : List ℕ). IsParts f x (m ∷ ns)) same.1 p.4;
     }
 
 pub parts_cons : (f : Family) (t first rest : List ℕ) (n : ℕ) (ns : List ℕ) → t ≡ first ++ separator_of f ∷ rest → IsPart f first n → 1 ≤ length ns → IsParts f rest ns → IsParts f t (n ∷ ns)

@@ -1,4 +1,4 @@
-ghost use Rattle.std.specs.Prelude.{◌≡◌, ◌≤◌, ◌/◌, ◌^◌, ◌↔◌, IsTrue, IfOk};
+ghost use Rattle.std.specs.Prelude.{◌≡◌, ◌≤◌, ◌*◌, ◌/◌, ◌^◌, ◌↔◌, IsTrue, IfOk};
 
 use crate::addr::Addr;
 use crate::copies::Copies;
@@ -63,6 +63,14 @@ pub(crate) fn above(n: u128, bits: u8) -> u128
     ensures { result ≡ n / 2 ^ bits }
 {
     if bits == 128 { 0 } else { n >> bits }
+}
+
+// The number with its lowest bits cleared.
+pub(crate) fn without_low(n: u128, bits: u8) -> u128
+    requires { bits ≤ 128 }
+    ensures { result ≡ n / 2 ^ bits * 2 ^ bits }
+{
+    if bits == 128 { 0 } else { n >> bits << bits }
 }
 
 impl Copies for Prefix {

@@ -7,7 +7,7 @@ ghost use Rattle.cl_types.specs.Addr.{width_of};
 ghost use Rattle.cl_types.specs.Reading.{separator_of, base_of, IsGroup, IsOctet, IsPart, IsParts, IsNumber, IsFull, IsShortened, IsDotted, IsAddress, IsPrefix, Lacks, HasNoGap, Continues};
 
 use crate::addr::Addr;
-use crate::prefix::Prefix;
+use crate::prefix::{Prefix, without_low};
 
 /// A text that is no address.
 #[derive(Clone, Copy, Debug, PartialEq, Eq)]
@@ -226,21 +226,28 @@ fn around_gap(front: Parts, back: Parts) -> u128
     high + back.number
 }
 
+fn address_of(text: &[u8]) -> Option<Addr>
+    ensures found { IfSome result (λ a. IsAddress text.now a) }
+    ensures none { IfNone result ((a : Addr) → IsAddress text.now a → ⊥) }
+{
+    if let Some(n) = read_dotted(text) {
+        return Some(Addr::V4(n));
+    }
+    if let Some(n) = read_full(text) {
+        return Some(Addr::V6(n));
+    }
+    match read_shortened(text) {
+        Some(n) => Some(Addr::V6(n)),
+        None => None,
+    }
+}
+
 /// The address that the text is a form of. It takes no memory.
 pub fn read_addr(text: &[u8]) -> Result<Addr, BadAddr>
     ensures found { IfOk result (λ a. IsAddress text.now a) }
     ensures bad { IfErr result (λ _. (a : Addr) → IsAddress text.now a → ⊥) }
 {
-    if let Some(n) = read_dotted(text) {
-        return Ok(Addr::V4(n));
-    }
-    if let Some(n) = read_full(text) {
-        return Ok(Addr::V6(n));
-    }
-    match read_shortened(text) {
-        Some(n) => Ok(Addr::V6(n)),
-        None => Err(BadAddr),
-    }
+    address_of(text).ok_or(BadAddr)
 }
 
 // The address with the bits past the length cleared.
@@ -250,16 +257,14 @@ fn clear_past(a: Addr, len: u8) -> Option<Prefix>
 {
     match a {
         Addr::V4(n) if len <= 32 => {
-            let free = 32 - len;
-            let base = if free == 32 { 0 } else { n >> free << free };
+            let base = without_low(u128::from(n), 32 - len) as u32;
             Some(Prefix {
                 base: Addr::V4(base),
                 len,
             })
         }
         Addr::V6(n) if len <= 128 => {
-            let free = 128 - len;
-            let base = if free == 128 { 0 } else { n >> free << free };
+            let base = without_low(n, 128 - len);
             Some(Prefix {
                 base: Addr::V6(base),
                 len,
@@ -274,7 +279,7 @@ fn prefix_of(text: &[u8]) -> Option<Prefix>
     ensures none { IfNone result ((p : Block) → IsPrefix text.now p → ⊥) }
 {
     let (address, len) = cut(text, b'/')?;
-    let a = read_addr(address).ok()?;
+    let a = address_of(address)?;
     let len = octet(len)?;
     clear_past(a, len as u8)
 }

@@ -1,11 +1,11 @@
-use Rattle.std.proofs.Common.{◌≡◌, ◌∙◌, ℕ, ◌+◌, ◌*◌, ◌≤◌, List, [], ◌∷◌, ◌++◌, length, ap, sym, subst, refl, Option, Some, None, arith}
-use Rattle.std.specs.Option.{IfSome, IfNone}
+use Rattle.std.proofs.Common.{◌≡◌, ◌∙◌, ℕ, ◌+◌, ◌*◌, ◌≤◌, List, [], ◌∷◌, ◌++◌, length, ap, subst, Option, Some, None, arith}
+use Rattle.std.specs.Option.{IfNone}
 use Rattle.std.proofs.lemmas.Option.{IfSome_then}
 use Rattle.std.specs.Int.Digits.{number_from_digits_after}
 use Rattle.cl_types.specs.Reading.{separator_of, base_of, IsPart, IsParts, Continues, Lacks}
 use Rattle.cl_types.specs.declared.reading.Family.{Family}
 use Rattle.cl_types.specs.declared.reading.Parts.{Parts}
-use Rattle.cl_types.proofs.Parts.{one_part, first_part, parts_cons, part_some}
+use Rattle.cl_types.proofs.Parts.{one_part, first_part, parts_cons}
 use Rattle.cl_types.proofs.reading.+read_parts.Goals as goal
 
 pub returns-in_err-part-in-None-clause-none : goal.returns-in_err-part-in-None-clause-none
@@ -32,7 +32,7 @@ returns-in_ok-part-in-None-clause-found t c = record {
   count = c.with_part.ensures.count;
   few = omega arith;
   number = c.with_part.ensures.number;
-  below = c.with_part.ensures.below
+  below = c.with_part.ensures.below;
 }
 
 -- a part, and what continues after it
@@ -44,7 +44,7 @@ after_first f before next text first rest n whole part count number parts more =
   count = omega (arith, more.count);
   few = more.few;
   number = more.number ∙ ap (λ m. number_from_digits_after (base_of f) m more.ns) number;
-  below = more.below
+  below = more.below;
 }
 
 pub returns-in_ok-part-in-Some-clause-found : goal.returns-in_ok-part-in-Some-clause-found

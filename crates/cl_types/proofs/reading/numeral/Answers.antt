@@ -21,8 +21,9 @@ returns-in_err-n-clause-none c =
 pub loop-b-preserved : goal.loop-b-preserved
 loop-b-preserved c =
     let digit = c.in_ok-n.ensures.value in
-    let at = ap digit_value c.from.ensures in
-    ( digits_more c.args.base c.args.text.now c.loop-b.b-index (omega arith) c.loop-b.invariant.0 (omega (arith, digit.0, at))
-    , ap (λ m. m * c.args.base + c.in_ok-n.field-0) c.loop-b.invariant.1
-      ∙ ap (λ d. digits_value c.args.base (take c.loop-b.b-index c.args.text.now) * c.args.base + d) (digit.1 ∙ at)
-      ∙ sym (digits_value_more c.args.base c.args.text.now c.loop-b.b-index (omega arith)) )
+    let at = ap digit_value c.from.ensures in (
+      digits_more c.args.base c.args.text.now c.loop-b.b-index (omega arith) c.loop-b.invariant.0 (omega (arith, digit.0, at)),
+      ap (λ m. m * c.args.base + c.in_ok-n.field-0) c.loop-b.invariant.1
+          ∙ ap (λ d. digits_value c.args.base (take c.loop-b.b-index c.args.text.now) * c.args.base + d) (digit.1 ∙ at)
+          ∙ sym (digits_value_more c.args.base c.args.text.now c.loop-b.b-index (omega arith)),
+    )

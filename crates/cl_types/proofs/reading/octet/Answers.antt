@@ -7,10 +7,11 @@ use Rattle.cl_types.proofs.reading.octet.Goals.{then-is_empty-via-then-is_empty,
 pub returns-then-is_empty-clause-none : goal.returns-then-is_empty-clause-none
 returns-then-is_empty-clause-none c = λ n o.
     let form = octet_form c.args.text.now n o in
-    elim c.then-is_empty.branch
-    [ then-is_empty-via-then-is_empty w ↦ grind (arith, nat_tests, form.some)
-    | then-is_empty-via-else-is_empty+then-text-gt3 w ↦ omega (arith, form.short)
-    | then-is_empty-via-else-is_empty+else-text-gt3+then-text-eq48 w ↦ elim w.if-text-gt1.branch [ then-text-gt1 w' ↦ grind (arith, nat_tests, form.plain) | else-text-gt1 w' ↦ grind (arith, nat_tests) ] ]
+    elim c.then-is_empty.branch [
+      | then-is_empty-via-then-is_empty w ↦ grind (arith, nat_tests, form.some)
+      | then-is_empty-via-else-is_empty+then-text-gt3 w ↦ omega (arith, form.short)
+      | then-is_empty-via-else-is_empty+else-text-gt3+then-text-eq48 w ↦ elim w.if-text-gt1.branch [ then-text-gt1 w' ↦ grind (arith, nat_tests, form.plain) | else-text-gt1 w' ↦ grind (arith, nat_tests) ]
+    ]
 
 pub returns-in_err-n-clause-none : goal.returns-in_err-n-clause-none
 returns-in_err-n-clause-none c =

@@ -49,10 +49,13 @@ returns-then-front-back-lt8-clause-found c =
     let back = c.in_ok-back.ensures.found in
     let gap : length front.0 + length back.0 < 8 = omega (arith, front.2.count, back.2.count) in
     record {
-      front = front.0; back = back.0;
-      front_text = c.in_ok-front.front.now; back_text = c.in_ok-front.back.now;
+      front = front.0;
+      back = back.0;
+      front_text = c.in_ok-front.front.now;
+      back_text = c.in_ok-front.back.now;
       gap = gap;
       whole = c.in_ok-front.ensures.found;
-      front_parts = front.1; back_parts = back.1;
-      value = gap_number c.in_ok-front-2.front.number c.in_ok-back.back.number c.around_gap.result front.0 back.0 (c.around_gap.ensures ∙ ap (λ k. c.in_ok-front-2.front.number * 65536 ^ (8 - k) + c.in_ok-back.back.number) front.2.count) gap front.2.number back.2.number
+      front_parts = front.1;
+      back_parts = back.1;
+      value = gap_number c.in_ok-front-2.front.number c.in_ok-back.back.number c.around_gap.result front.0 back.0 (c.around_gap.ensures ∙ ap (λ k. c.in_ok-front-2.front.number * 65536 ^ (8 - k) + c.in_ok-back.back.number) front.2.count) gap front.2.number back.2.number;
     }
