@@ -13,7 +13,7 @@ use Rattle.cl_types.specs.declared.reading.Family.TheVariants.{Dotted, Colons}
 use Rattle.cl_types.specs.Reading.{IsParts, IsFull, IsShortened, IsDotted, IsOctet, IsAddress, IsPrefix, Lacks, HasNoGap}
 use Rattle.cl_types.specs.Addr.{width_of}
 use Rattle.cl_types.specs.Prefix.{Block, cleared}
-use Rattle.cl_types.proofs.Parts.{parts_unique, parts_lack, lacks_cons, lacks_no_cut, cut_unique}
+use Rattle.cl_types.proofs.Parts.{parts_unique, parts_lack, lacks_cons, lacks_no_cut, cut_unique, part_same}
 use Rattle.cl_types.proofs.Gap.{parts_gap, parts_no_gap, has_gap, gap_unique}
 
 full_full : (t : List ℕ) (m n : ℕ) → IsFull t m → IsFull t n → m ≡ n
@@ -131,3 +131,10 @@ prefix_sides text address len p whole first o =
       octet = record { below = omega (arith, o.len, width_small o.address); value = sym same.1 };
       base = o.base;
     }
+
+pub prefix_unique : (text : List ℕ) (p q : Block) → IsPrefix text p → IsPrefix text q → p ≡ q
+prefix_unique text p q o r =
+    let sides = prefix_sides text r.address_text (decimal q.len) p r.whole (address_lacks r.address_text r.address r.form) o in
+    let a = address_unique r.address_text sides.a r.address sides.form r.form in
+    let len = part_same Dotted (decimal q.len) p.len q.len sides.octet (record { below = omega (arith, r.len, width_small r.address); value = refl }) in
+    (λ i. record { base = (sides.base ∙ (λ j. cleared (a j) (len j)) ∙ sym r.base) i; len = len i })

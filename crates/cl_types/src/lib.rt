@@ -4,6 +4,7 @@
 mod addr;
 mod copies;
 mod keys;
+mod laws;
 mod list;
 mod memory;
 mod prefix;
@@ -16,6 +17,7 @@ mod writing;
 pub use addr::Addr;
 pub use copies::Copies;
 pub use keys::{Dir, PodKey, PolicyKey, PolicyKind, RuleKey, rule_cmp};
+pub use laws::{orders_are_exact, texts_have_one_reading};
 pub use list::List;
 pub use memory::NoMemory;
 pub use prefix::Prefix;
