@@ -1,8 +1,10 @@
 -- Texts of parts with a separator between each two: a text has one reading at most.
-use Rattle.std.proofs.Common.{◌≡◌, ◌≢◌, ℕ, zero, suc, ◌+◌, ◌*◌, ◌^◌, ◌<◌, ◌≤◌, List, [], ◌∷◌, ◌++◌, length, length-append, get_or, refl, sym, ap, ◌∙◌, subst, add-one, arith}
+use Rattle.std.proofs.Common.{◌≡◌, ◌≢◌, ℕ, zero, suc, ◌+◌, ◌*◌, ◌^◌, ◌<◌, ◌≤◌, List, [], ◌∷◌, ◌++◌, length, length-append, get_or, Bool, true, false, cond, eqb, refl, sym, ap, ◌∙◌, subst, add-one, arith}
 use Rattle.std.proofs.Math.Nat.{pow-suc, pow-le-pow_left, pow-le-pow_right}
 use Rattle.std.proofs.lemmas.Nat.{mul-add-lt}
 use Rattle.std.proofs.lemmas.List.Elements.{All-append}
+use Rattle.std.proofs.lemmas.Bool.{false≢true}
+use borrow.Author.Tests.{eq-eqb}
 use Rattle.std.specs.List.{All}
 use Rattle.std.specs.Str.Parse.{AllDigits, digits_value}
 use Rattle.std.specs.Char.{digit_value}
@@ -32,7 +34,7 @@ lacks_no_cut s (t ∷ ts) (a ∷ as') x lacks e =
     let tails : ts ≡ as' ++ s ∷ x = cc in
     lacks_no_cut s ts as' x (lacks_tail s t ts lacks) tails
 
-digits_lack : (b s : ℕ) (t : List ℕ) → b ≤ digit_value s → AllDigits b t → Lacks s t
+pub digits_lack : (b s : ℕ) (t : List ℕ) → b ≤ digit_value s → AllDigits b t → Lacks s t
 digits_lack b s t high all = λ k d h e. omega (arith, digit_in b t k d all h, ap digit_value e)
 
 -- a part has no byte that is no digit
@@ -47,6 +49,21 @@ part_lacks Colons t n p = part_lacks_other Colons 58 t n (omega arith) p
 pub lacks_cons : (s x : ℕ) (xs : List ℕ) → x ≢ s → Lacks s xs → Lacks s (x ∷ xs)
 lacks_cons s x xs ne lacks zero d h = ne
 lacks_cons s x xs ne lacks (suc k) d h = lacks k d (omega arith)
+
+-- whether no byte of a literal is this one
+abbrev pub lacks : ℕ → List ℕ → Bool
+lacks s [] = true
+lacks s (x ∷ xs) = cond (eqb x s) false (lacks s xs)
+
+first_lacks : (s x : ℕ) (rest t : Bool) → eqb x s ≡ t → cond t false rest ≡ true → (x ≢ s) × (rest ≡ true)
+first_lacks s x rest true is e = absurd (false≢true e)
+first_lacks s x rest false is e = ((λ same. absurd (false≢true (sym is ∙ eq-eqb x s same))), e)
+
+pub lacks_literal : (s : ℕ) (xs : List ℕ) → lacks s xs ≡ true → Lacks s xs
+lacks_literal s [] e = λ k d h. absurd (omega arith)
+lacks_literal s (x ∷ xs) e =
+    let here = first_lacks s x (lacks s xs) (eqb x s) refl e in
+    lacks_cons s x xs here.0 (lacks_literal s xs here.1)
 
 pub parts_lack : (f : Family) (s : ℕ) (t : List ℕ) (ns : List ℕ) → 36 ≤ digit_value s → separator_of f ≢ s → IsParts f t ns → Lacks s t
 parts_lack f s t [] other ne p = λ k d h e. omega (arith, ap length p)

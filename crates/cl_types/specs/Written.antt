@@ -1,6 +1,6 @@
 -- Printed texts. Addresses: RFC 791's dotted decimals, and RFC 5952 for IPv6. The texts of policies, rules,
 -- pods and verdicts are this project's own.
-use Rattle.std.specs.Prelude.{◌≡◌, ℕ, zero, suc, false, ◌+◌, ◌/◌, ◌%◌, ◌==◌, nat_lt, if◌then◌else◌, List, [], ◌∷◌, ◌++◌, map, take, drop, length, codes}
+use Rattle.std.specs.Prelude.{◌≡◌, ℕ, zero, suc, false, ◌+◌, ◌/◌, ◌%◌, ◌^◌, ◌<◌, ◌==◌, nat_lt, if◌then◌else◌, List, [], ◌∷◌, ◌++◌, map, take, drop, length, codes}
 use Rattle.std.specs.List.{join_with_byte}
 use Rattle.std.specs.Int.{to_be_bytes, w32}
 use Rattle.std.specs.Fmt.{decimal, digits}
@@ -16,7 +16,7 @@ use Rattle.cl_types.specs.declared.traffic.Verdict.{Verdict}
 use Rattle.cl_types.specs.declared.traffic.Verdict.TheVariants.{Allow, Drop, Reject}
 use Rattle.cl_types.specs.declared.writing.ZeroRun.{ZeroRun}
 use Rattle.cl_types.specs.Prefix.{Block}
-use Rattle.cl_types.specs.PolicyName.{PolicyName}
+use Rattle.cl_types.specs.PolicyName.{PolicyName, IsPolicyName}
 use Rattle.cl_types.specs.Judgement.{Reason, by_rule, by_isolation, by_default, Judgement}
 
 -- the last `count` digits of n to the base, the highest first
@@ -91,6 +91,11 @@ direction_text Egress = codes "egress"
 abbrev pub rule_text : RuleKey → List ℕ
 rule_text r =
     policy_text r.policy ++ (codes " " ++ (direction_text r.dir ++ (codes "[" ++ (decimal r.index ++ codes "]"))))
+
+-- what the types keep of a rule's name
+pub record HasName (r : RuleKey) : Type 0 where
+  pub policy : IsPolicyName r.policy.kind r.policy.namespace r.policy.name
+  pub index : r.index < 2 ^ 32
 
 abbrev pub verdict_text : Verdict → List ℕ
 verdict_text Allow = codes "allow"

@@ -10,6 +10,7 @@ ghost use Rattle.cl_types.specs.PolicyName.{PolicyName, IsPolicyName, HasNoSlash
 ghost use Rattle.cl_types.specs.RuleOrder.{policy_order, rule_order};
 ghost use Rattle.cl_types.specs.Reading.{IsAddress, IsPrefix};
 ghost use Rattle.cl_types.specs.Prefix.{Block};
+ghost use Rattle.cl_types.specs.Written.{policy_text, rule_text, pod_text, HasName};
 
 /// Only equal addresses, policies and rules stand at one place of their order.
 pub fn orders_are_exact()
@@ -23,5 +24,17 @@ pub fn orders_are_exact()
 pub fn texts_have_one_reading()
     ensures addresses { (text : List ℕ) (a b : Addr) → IsAddress text a → IsAddress text b → a ≡ b }
     ensures prefixes { (text : List ℕ) (p q : Block) → IsPrefix text p → IsPrefix text q → p ≡ q }
+{
+}
+
+/// Different policies have different texts. So have rules that differ in policy, direction or index, and
+/// pods whose namespaces have no `/`.
+pub fn texts_tell_names_apart()
+    ensures policies { (a b : PolicyName) → IsPolicyName a.kind a.namespace a.name
+        → IsPolicyName b.kind b.namespace b.name → policy_text a ≡ policy_text b → a ≡ b }
+    ensures rules { (a b : RuleKey) → HasName a → HasName b → rule_text a ≡ rule_text b
+        → (a.policy ≡ b.policy) × (a.dir ≡ b.dir) × (a.index ≡ b.index) }
+    ensures pods { (a b : PodKey) → HasNoSlash a.namespace → HasNoSlash b.namespace
+        → pod_text a ≡ pod_text b → a ≡ b }
 {
 }
