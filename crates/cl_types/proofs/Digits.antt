@@ -1,5 +1,5 @@
 -- The digits of a number in any base, one digit at a time.
-use Rattle.std.proofs.Common.{◌≡◌, ℕ, zero, suc, ◌+◌, ◌-◌, ◌*◌, ◌/◌, ◌%◌, ◌^◌, ◌<◌, ◌≤◌, List, [], ◌∷◌, ◌++◌, Bool, true, false, cond, eqb, refl, sym, ap, ◌∙◌, ⊎_elim, append_assoc, arith}
+use Rattle.std.proofs.Common.{◌≡◌, ℕ, zero, suc, ◌+◌, ◌-◌, ◌*◌, ◌/◌, ◌%◌, ◌^◌, ◌<◌, ◌≤◌, List, [], ◌∷◌, ◌++◌, Bool, true, false, cond, eqb, refl, sym, ap, ◌∙◌, ⊎_elim, append_assoc, length, length-append, arith}
 use Rattle.std.specs.Fmt.{digits, digits_onto, digit_glyph}
 use Rattle.std.proofs.Math.Nat.{div-eq_of_lt, mod-eq_of_lt, div-le_self, pow-suc, pow-zero, pow-le-pow_left}
 use Rattle.std.proofs.lemmas.Nat.{le-div, div_below}
@@ -75,3 +75,11 @@ module _ (b : ℕ) (low : 2 ≤ b) where
   pub digits_none : (n last : ℕ) (old mid new : List ℕ) → n < b → mid ≡ old → last ≡ digit_glyph false (n % b) → new ≡ mid ++ (last ∷ []) → new ≡ old ++ digits b false n
   digits_none n last old mid new h e d f =
       f ∙ (λ i. e i ++ ((d ∙ ap (digit_glyph false) (mod-eq_of_lt h)) i ∷ [])) ∙ ap (λ t. old ++ t) (sym (digits_one n h))
+
+  -- how many digits a number has at most
+  pub length-digits-le : (k n : ℕ) → n < b ^ suc k → n < b ^ 64 → length (digits b false n) ≤ suc k
+  length-digits-le zero n h wide = omega (arith, ap length (digits_one n (one_place n h)))
+  length-digits-le (suc k) n h wide = ⊎_elim
+      (λ l. omega (arith, ap length (digits_one n l)))
+      (λ l. omega (arith, ap length (digits_step n l wide), length-append (digits b false (n / b)) (digit_glyph false (n % b) ∷ []), length-digits-le k (n / b) (smaller (suc k) n h) (omega (arith, div-le_self n b))))
+      (cases_lt n b)

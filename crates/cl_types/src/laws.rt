@@ -5,12 +5,12 @@ ghost use Rattle.std.specs.declared.cmp.Ordering.TheVariants.{Equal};
 ghost use Rattle.cl_types.specs.declared.addr.Addr.{Addr};
 ghost use Rattle.cl_types.specs.declared.keys.RuleKey.{RuleKey};
 ghost use Rattle.cl_types.specs.declared.keys.PodKey.{PodKey};
-ghost use Rattle.cl_types.specs.Addr.{addr_order};
+ghost use Rattle.cl_types.specs.Addr.{addr_order, width_of, number_of};
 ghost use Rattle.cl_types.specs.PolicyName.{PolicyName, IsPolicyName, HasNoSlash};
 ghost use Rattle.cl_types.specs.RuleOrder.{policy_order, rule_order};
 ghost use Rattle.cl_types.specs.Reading.{IsAddress, IsPrefix};
-ghost use Rattle.cl_types.specs.Prefix.{Block};
-ghost use Rattle.cl_types.specs.Written.{policy_text, rule_text, pod_text, HasName};
+ghost use Rattle.cl_types.specs.Prefix.{Block, IsBlock};
+ghost use Rattle.cl_types.specs.Written.{address_text, prefix_text, policy_text, rule_text, pod_text, HasName};
 
 /// Only equal addresses, policies and rules stand at one place of their order.
 pub fn orders_are_exact()
@@ -36,5 +36,13 @@ pub fn texts_tell_names_apart()
         → (a.policy ≡ b.policy) × (a.dir ≡ b.dir) × (a.index ≡ b.index) }
     ensures pods { (a b : PodKey) → HasNoSlash a.namespace → HasNoSlash b.namespace
         → pod_text a ≡ pod_text b → a ≡ b }
+{
+}
+
+/// What is written of an address or a prefix is read as that address or prefix.
+pub fn written_is_read()
+    ensures addresses { (a : Addr) → number_of a < 2 ^ width_of a → IsAddress (address_text a) a }
+    ensures prefixes { (b : Block) → number_of b.base < 2 ^ width_of b.base → IsBlock b.base b.len
+        → IsPrefix (prefix_text b) b }
 {
 }
