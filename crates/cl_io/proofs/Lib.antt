@@ -1,1 +1,3 @@
+pub mod Feeds
 pub mod Putting
+pub mod Standing

@@ -1,7 +1,6 @@
 -- The front of a line that is being read, of which no more is kept than a line may have.
 use Rattle.std.specs.Prelude.{◌≡◌, ◌≢◌, ℕ, ◌+◌, ◌<◌, ◌≤◌, List, [], ◌∷◌, ◌++◌, Bool, true, false, All, length}
 use Rattle.cl_io.specs.declared.lines.Front.{Front}
-use Rattle.cl_io.specs.Reading.{Reading}
 
 -- it stands for these bytes: all are counted, and kept while they aren't more than the limit
 pub record IsFront (front : Front) (bytes : List ℕ) : Type 0 where
@@ -20,7 +19,3 @@ HasNoFeed = All (λ byte. byte ≢ 10)
 abbrev pub Parts : Bool → List ℕ → List ℕ → List ℕ → Type 0
 Parts true pending part rest = pending ≡ part ++ 10 ∷ rest
 Parts false pending part rest = (pending ≡ part) × (rest ≡ [])
-
--- the reader with other bytes pending
-abbrev pub with_pending : Reading → List ℕ → Reading
-with_pending reading bytes = record reading { pending = bytes }

@@ -7,3 +7,4 @@ pub mod Memory
 pub mod Reading
 pub mod Sink
 pub mod Telling
+pub mod Turns

@@ -1,7 +1,11 @@
-ghost use Rattle.std.specs.Prelude.{◌≡◌, ◌≢◌, ℕ, ◌+◌, ◌-◌, ◌^◌, ◌<◌, ◌≤◌, [], ◌∷◌, ◌++◌, ◌⊎◌, length, true, false, Ok, Err, Some, IsTrue, IsOk, IsErrOf, IfOk, IfSome, OnOk, option_map};
+ghost use Rattle.std.specs.Prelude.{◌≡◌, ◌≢◌, ℕ, ◌+◌, ◌-◌, ◌^◌, ◌<◌, ◌≤◌, [], ◌∷◌, ◌++◌, ◌⊎◌, length, true, false, Ok, Err, Some, IsTrue, IsOk, IsErrOf, IfOk, IfSome, OnOk, OnErr, option_map};
 ghost use Rattle.std.specs.Option.{option_copied};
 ghost use Rattle.std.specs.List.{slice_get};
 ghost use Rattle.cl_io.specs.declared.lines.LineFault.TheVariants.{NoMemory as no_memory};
+ghost use Rattle.cl_io.specs.Answers.{IsUnfailing};
+ghost use Rattle.cl_io.specs.Causes.{Rose};
+ghost use Rattle.cl_io.specs.Files.{begun_entry, read_last};
+ghost use Rattle.cl_io.specs.Telling.{Adds, StaysTold};
 
 use crate::files::Files;
 use cl_types::{Copies, List, NoMemory, Text};
@@ -98,6 +102,13 @@ impl Front {
     }
 }
 
+// What a step of a reader came to.
+enum Turn {
+    On,
+    LineEnds,
+    NoMore,
+}
+
 /// Reads the lines of files, one after another.
 #[derive(Drop)]
 pub struct Lines {
@@ -125,9 +136,9 @@ impl Model for Lines {
 }
 
 impl Lines {
-    ghost use Rattle.cl_io.specs.Answers.{Hands, KeepsLimit, GoesOn, Leaves, BeginsInOrder, EachLeft, KeepsTelling, IsUnfailing};
-    ghost use Rattle.cl_io.specs.Causes.{Rose};
-    ghost use Rattle.cl_io.specs.Front.{IsFront, Gains, HasNoFeed, Parts, with_pending};
+    ghost use Rattle.cl_io.specs.Answers.{Hands, KeepsLimit, GoesOn, Leaves, BeginsInOrder, EachLeft, KeepsTelling};
+    ghost use Rattle.cl_io.specs.Front.{IsFront, Gains, HasNoFeed, Parts};
+    ghost use Rattle.cl_io.specs.Turns.{with_pending, next_name, after_begin, after_read, steps_left, Turns};
     ghost use Rattle.cl_io.specs.Reading.{Reading, reading_of, SameTask, Told, told, Stands, IsFinished, IsUnopened, IsUnreadable, IsOverfull};
 
     /// A reader of the files of these names, in order. No line that it gives is longer than `line_limit` bytes,
@@ -197,16 +208,46 @@ impl Lines {
     {
         let mut front = Front::new(self.alloc, self.line_limit);
         loop {
-            if self.advance(&mut front)? {
-                return Ok(front.into_line());
+            match self.turn(files, &mut front)? {
+                Turn::On => {}
+                Turn::LineEnds => return Ok(front.into_line()),
+                Turn::NoMore => return Ok(Line::End),
             }
-            if self.amid {
-                if !self.fill(files)? && front.length > 0 {
-                    return Ok(front.into_line());
-                }
-            } else if !self.begin(files)? {
-                return Ok(Line::End);
-            }
+        }
+    }
+
+    // Goes on by one step: to the end of the line, or into the next bytes or the next file.
+    fn turn<F: Files>(&mut self, files: &mut F, front: &mut Front) -> Result<Turn, LineFault>
+        requires { front.old.length + length self.old.pending ≤ self.old.total }
+        ensures task { SameTask self.old self.new }
+        ensures begun { (self.old.begun ≤ self.new.begun) × (self.old.begun ≤ length self.old.names → self.new.begun ≤ length self.new.names) }
+        ensures limit { OnOk result (front.new.limit ≡ front.old.limit) }
+
+        ensures turns { let was = told (F.tried files.old) (F.taken files.old) in let now = told (F.tried files.new) (F.taken files.new) in
+            (line : _) → IsFront front.old line → HasNoFeed line → Turns self.old was line result self.new now front.new }
+        ensures order { BeginsInOrder self.old (told (F.tried files.old) (F.taken files.old)) self.new (told (F.tried files.new) (F.taken files.new)) }
+
+        ensures later { F.faults files.old ≤ F.faults files.new }
+        ensures begin_cause { result ≡ Err LineFault.Begin → (0 < self.new.begun) × Rose (F.faults files.old) (F.faults files.new) }
+        ensures read_cause { result ≡ Err LineFault.Read → (0 < self.new.begun) × Rose (F.faults files.old) (F.faults files.new) }
+        ensures unfailing { IsTrue (F.steady files.old) → EachLeft (F.there files.old) self.old
+            → IsUnfailing (F.faults files.old) result (F.faults files.new) (F.steady files.new) }
+        ensures telling { EachLeft (F.knows files.old) self.old → length self.old.names ≤ F.places files.old + self.old.begun
+            → KeepsTelling self.old (told (F.tried files.old) (F.taken files.old)) (F.places files.old) self.new (told (F.tried files.new) (F.taken files.new)) (F.places files.new) }
+        ensures content { F.content files.new ≡ F.content files.old }
+        ensures knows { F.knows files.new ≡ F.knows files.old }
+        ensures there { F.there files.new ≡ F.there files.old }
+        ensures nearer { result ≡ Ok Turn.On → steps_left self.new < steps_left self.old }
+    {
+        if self.advance(front)? {
+            return Ok(Turn::LineEnds);
+        }
+        if self.amid {
+            let more = self.fill(files)?;
+            Ok(if more || front.length == 0 { Turn::On } else { Turn::LineEnds })
+        } else {
+            let more = self.begin(files)?;
+            Ok(if more { Turn::On } else { Turn::NoMore })
         }
     }
 
@@ -234,10 +275,33 @@ impl Lines {
     }
 
     // Reads on in the file that was begun last, and says whether more came.
-    fn fill<F: Files>(&mut self, files: &mut F) -> Result<bool, LineFault> {
+    fn fill<F: Files>(&mut self, files: &mut F) -> Result<bool, LineFault>
+        requires { self.old.amid ≡ true }
+        ensures reads { IfOk result (λ more. (self.new ≡ after_read self.new.pending self.old) × (more ≡ self.new.amid)) }
+        ensures within { OnOk result (self.new.total ≤ self.new.input_limit) }
+        ensures taken { OnOk result (F.taken files.new ≡ option_map (read_last self.new.pending) (F.taken files.old)) }
+        ensures tried { F.tried files.new ≡ F.tried files.old }
+
+        ensures err { OnErr result (self.new ≡ with_pending self.old self.new.pending) }
+        ensures read { result ≡ Err LineFault.Read → F.taken files.new ≡ F.taken files.old }
+        ensures over { result ≡ Err LineFault.InputTooLong → (self.old.total ≡ self.old.input_limit)
+            × ((byte : ℕ) × (F.taken files.new ≡ option_map (read_last (byte ∷ [])) (F.taken files.old))) }
+        ensures no_begin { result ≡ Err LineFault.Begin → ⊥ }
+        ensures telling { StaysTold (F.taken files.old) (F.taken files.new) }
+        ensures places { F.places files.new ≡ F.places files.old }
+
+        ensures later { F.faults files.old ≤ F.faults files.new }
+        ensures cause { result ≡ Err LineFault.Read → Rose (F.faults files.old) (F.faults files.new) }
+        ensures unfailing { IsTrue (F.steady files.old) → IsUnfailing (F.faults files.old) result (F.faults files.new) (F.steady files.new) }
+        ensures content { F.content files.new ≡ F.content files.old }
+        ensures knows { F.knows files.new ≡ F.knows files.old }
+        ensures there { F.there files.new ≡ F.there files.old }
+    {
         let left = self.input_limit - self.total;
-        let count = read_chunk(files, &mut self.chunk, left.min(CHUNK).max(1))?;
+        let most = left.min(CHUNK).max(1);
         self.start = 0;
+        self.chunk.clear();
+        let count = read_chunk(files, &mut self.chunk, most)?;
         if count > left {
             self.chunk.clear();
             return Err(LineFault::InputTooLong);
@@ -247,27 +311,64 @@ impl Lines {
         Ok(self.amid)
     }
 
-    // Begins the next file, if there is one.
-    fn begin<F: Files>(&mut self, files: &mut F) -> Result<bool, LineFault> {
+    // Begins the next file, and says whether there was one.
+    fn begin<F: Files>(&mut self, files: &mut F) -> Result<bool, LineFault>
+        requires { self.old.amid ≡ false }
+        ensures none { result ≡ Ok false → (self.new ≡ self.old) × (length self.old.names ≤ self.old.begun) × (files.new ≡ files.old) }
+        ensures some { result ≡ Ok true → (self.old.begun < length self.old.names) × (self.new ≡ after_begin true self.old)
+            × Adds (F.taken files.old) (begun_entry (next_name self.old) ∷ []) (F.taken files.new) }
+        ensures err { OnErr result ((result ≡ Err LineFault.Begin) × (self.old.begun < length self.old.names) × (self.new ≡ after_begin false self.old)
+            × Adds (F.taken files.old) [] (F.taken files.new)) }
+        ensures tried { self.new.begun ≡ self.old.begun + 1 → Adds (F.tried files.old) (next_name self.old ∷ []) (F.tried files.new) }
+        ensures telling { self.new.begun ≡ self.old.begun + 1 → IsTrue (F.knows files.old (next_name self.old)) → 0 < F.places files.old
+            → StaysTold (F.tried files.old) (F.tried files.new) × StaysTold (F.taken files.old) (F.taken files.new) × (F.places files.new + 1 ≡ F.places files.old) }
+
+        ensures later { F.faults files.old ≤ F.faults files.new }
+        ensures cause { OnErr result (Rose (F.faults files.old) (F.faults files.new)) }
+        ensures unfailing { IsTrue (F.steady files.old) → (self.old.begun < length self.old.names → IsTrue (F.there files.old (next_name self.old)))
+            → IsUnfailing (F.faults files.old) result (F.faults files.new) (F.steady files.new) }
+        ensures content { F.content files.new ≡ F.content files.old }
+        ensures knows { F.knows files.new ≡ F.knows files.old }
+        ensures there { F.there files.new ≡ F.there files.old }
+    {
         let names = self.names.as_slice();
         if self.begun >= names.len() {
             return Ok(false);
         }
         let begun = files.begin(&names[self.begun]);
         self.begun += 1;
-        begun.map_err(|_| LineFault::Begin)?;
+        if begun.is_err() {
+            return Err(LineFault::Begin);
+        }
         self.amid = true;
         Ok(true)
     }
 }
 
-// Reads up to so many bytes, which are then the whole chunk.
+// Reads up to so many bytes, which are then the whole chunk. After a failure the chunk is empty.
 fn read_chunk<F: Files>(files: &mut F, chunk: &mut Vec<u8>, most: u64) -> Result<u64, LineFault>
     requires { 0 < most }
+    ensures count { IfOk result (λ count. (count ≡ length chunk.new.items) × (count ≤ most)) }
+    ensures taken { OnOk result (F.taken files.new ≡ option_map (read_last chunk.new.items) (F.taken files.old)) }
+    ensures not_taken { OnErr result (F.taken files.new ≡ F.taken files.old) }
+    ensures empty { OnErr result (chunk.new.items ≡ []) }
+    ensures err { OnErr result ((result ≡ Err LineFault.Read) ⊎ (result ≡ Err LineFault.NoMemory)) }
+    ensures tried { F.tried files.new ≡ F.tried files.old }
+    ensures places { F.places files.new ≡ F.places files.old }
+    ensures later { F.faults files.old ≤ F.faults files.new }
+    ensures cause { result ≡ Err LineFault.Read → Rose (F.faults files.old) (F.faults files.new) }
+    ensures unfailing { IsTrue (F.steady files.old) → IsUnfailing (F.faults files.old) result (F.faults files.new) (F.steady files.new) }
+    ensures content { F.content files.new ≡ F.content files.old }
+    ensures knows { F.knows files.new ≡ F.knows files.old }
+    ensures there { F.there files.new ≡ F.there files.old }
 {
     chunk.clear();
-    chunk.resize(most as usize, 0)?;
-    let count = files.read(chunk.as_mut_slice()).map_err(|_| LineFault::Read)?;
-    chunk.truncate(count);
+    let mut buffer = vec![in *chunk.allocator(); 0; most as usize]?;
+    let read = files.read(buffer.as_mut_slice());
+    let Ok(count) = read else {
+        return Err(LineFault::Read);
+    };
+    buffer.truncate(count);
+    *chunk = buffer;
     Ok(count as u64)
 }
