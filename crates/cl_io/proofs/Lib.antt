@@ -1,3 +1,4 @@
 pub mod Feeds
 pub mod Putting
 pub mod Standing
+pub mod Turning

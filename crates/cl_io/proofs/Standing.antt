@@ -244,15 +244,28 @@ finished base done r now amid all st =
     (λ more t. let b = between done r more amid t in
       record { names = t.names ∙ take_all r.begun r.names all; ended = b.ended; lines = b.lines; within = omega (arith, t.bytes, st.within) })
 
-pub unopened : (base : Told) (done : List (List ℕ)) (r : Reading) (now : Told) (taken : Option (List Entry)) → r.amid ≡ false →
-    Adds now.taken [] taken → Stands base done r now → AddsSome base.taken (IsUnopened done (after_begin false r)) taken
-unopened base done r now taken amid same st =
-    AddsSome-adds base.taken (Took done r) (IsUnopened done (after_begin false r)) now.taken [] taken st.taken same
+pub unopened : (base : Told) (done : List (List ℕ)) (r : Reading) (now : Told) (taken : Option (List Entry)) (left : List ℕ) → r.amid ≡ false →
+    Adds now.taken [] taken → Stands base done r now → AddsSome base.taken (IsUnopened done (with_pending (after_begin false r) left)) taken
+unopened base done r now taken left amid same st =
+    AddsSome-adds base.taken (Took done r) (IsUnopened done (with_pending (after_begin false r) left)) now.taken [] taken st.taken same
     (λ more t. let b = between done r more amid t in
-      let Q : List Entry → Type 0 = IsUnopened done (after_begin false r) in
+      let Q : List Entry → Type 0 = IsUnopened done (with_pending (after_begin false r) left) in
       let e : r.begun ≡ r.begun + 1 - 1 = omega arith in
       subst Q (sym (append-nil more))
       (record { names = t.names ∙ ap (λ k. take k r.names) e; ended = b.ended; lines = b.lines; within = omega (arith, t.bytes, st.within) }))
+
+-- between two files nothing is pending
+pub Stands-between : (base : Told) (done : List (List ℕ)) (r : Reading) (now : Told) (line : List ℕ) → r.amid ≡ false → r.pending ≡ [] →
+    Stands base done (with_pending r line) now → Stands base done r now
+Stands-between base done r now line amid empty st =
+    record {
+      tried = st.tried;
+      taken = AddsSome-weaker base.taken (Took done (with_pending r line)) (Took done r) now.taken st.taken
+        (λ more t. let b = between done (with_pending r line) more amid t in
+          let P : Bool → Type 0 = λ m. MatchBool m (IsAmid done r.pending more) (IsBetween done r.pending more) in
+          record { names = t.names; bytes = t.bytes; lines = subst P (sym amid) (record { ended = b.ended; lines = b.lines; nothing = empty }) });
+      within = st.within
+    }
 
 pub unreadable : (base : Told) (done : List (List ℕ)) (r : Reading) (now : Told) (taken : Option (List Entry)) (left : List ℕ) → r.amid ≡ true → HasNoFeed r.pending →
     taken ≡ now.taken → Stands base done r now → AddsSome base.taken (IsUnreadable done (with_pending r left)) taken

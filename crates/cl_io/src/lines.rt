@@ -125,14 +125,14 @@ pub struct Lines {
 }
 
 impl Model for Lines {
-    ghost use Rattle.std.specs.Prelude.{◌+◌, ◌≤◌, length, drop};
+    ghost use Rattle.std.specs.Prelude.{◌≡◌, ◌+◌, ◌<◌, ◌≤◌, true, length, drop};
     ghost use Rattle.cl_io.specs.Reading.{Reading};
 
     ghost Value = { Reading };
 
     ghost view = { λ l. record { names = l.names; begun = l.begun; amid = l.amid; pending = drop l.start l.chunk.items; total = l.total; line_limit = l.line_limit; input_limit = l.input_limit } };
 
-    ghost invariant = { λ l. (l.begun ≤ length l.names) × (l.start ≤ length l.chunk.items) × (length l.chunk.items ≤ l.total + l.start) × (l.total ≤ l.input_limit) };
+    ghost invariant = { λ l. (l.begun ≤ length l.names) × (l.start ≤ length l.chunk.items) × (length l.chunk.items ≤ l.total + l.start) × (l.total ≤ l.input_limit) × (l.amid ≡ true → 0 < l.begun) };
 }
 
 impl Lines {
@@ -279,6 +279,7 @@ impl Lines {
         requires { self.old.amid ≡ true }
         ensures reads { IfOk result (λ more. (self.new ≡ after_read self.new.pending self.old) × (more ≡ self.new.amid)) }
         ensures within { OnOk result (self.new.total ≤ self.new.input_limit) }
+        ensures begun { 0 < self.new.begun }
         ensures taken { OnOk result (F.taken files.new ≡ option_map (read_last self.new.pending) (F.taken files.old)) }
         ensures tried { F.tried files.new ≡ F.tried files.old }
 
