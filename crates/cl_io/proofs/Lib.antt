@@ -1,4 +1,5 @@
 pub mod Feeds
+pub mod Nexting
 pub mod Putting
 pub mod Standing
 pub mod Turning

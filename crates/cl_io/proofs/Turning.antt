@@ -7,11 +7,11 @@ use Rattle.cl_io.specs.declared.lines.Turn.{Turn}
 use Rattle.cl_io.specs.declared.lines.Turn.TheVariants.{On, LineEnds, NoMore}
 use Rattle.cl_io.specs.declared.lines.LineFault.{LineFault}
 use Rattle.cl_io.specs.declared.lines.LineFault.TheVariants.{Begin, Read, InputTooLong, NoMemory}
-use Rattle.cl_io.specs.Answers.{EachLeft}
+use Rattle.cl_io.specs.Answers.{EachLeft, IsUnfailing, KeepsTelling}
 use Rattle.cl_io.specs.Files.{Entry, begun_entry, read_last}
 use Rattle.cl_io.specs.Front.{IsFront, Gains, HasNoFeed, Parts}
 use Rattle.cl_io.specs.Reading.{Reading, Told, told, Stands, IsFinished, IsUnopened, IsUnreadable, IsOverfull}
-use Rattle.cl_io.specs.Telling.{Adds, AddsSome}
+use Rattle.cl_io.specs.Telling.{Adds, AddsSome, StaysTold}
 use Rattle.cl_io.specs.Turns.{with_pending, next_name, after_begin, after_read, before, GoesFurther, EndsLine, EndsAll, StopsWith, Turns}
 use Rattle.cl_io.proofs.Standing.{Stands-fed, Stands-begun, Stands-read, Stands-ended, Stands-between, finished, unopened, unreadable, overfull, last_line, last_line-some, last_line-none}
 
@@ -27,9 +27,11 @@ pub record Advanced (reading : Reading) (was : Told) (line : List ℕ) (reading'
 no_feed-more : (line part : List ℕ) → HasNoFeed line → HasNoFeed part → HasNoFeed (line ++ part)
 no_feed-more line part h h' = All-append (λ x. x ≡ 10 → ⊥) line part h h'
 
-pub fed : (r r' : Reading) (was : Told) (line part : List ℕ) (front front' : Front) → r' ≡ with_pending r r'.pending → Parts true r.pending part r'.pending →
+pub fed : (r r' : Reading) (was : Told) (line part : List ℕ) (front front' : Front) (m : Bool) → m ≡ true → r' ≡ with_pending r r'.pending → Parts m r.pending part r'.pending →
     HasNoFeed part → Gains front front' part → IsFront front line → HasNoFeed line → EndsLine r was line r' was front'
-fed r r' was line part front front' e parts h gains f h' =
+fed r r' was line part front front' m t e parted h gains f h' =
+    let M : Bool → Type 0 = λ z. Parts z r.pending part r'.pending in
+    let parts = subst M t parted in
     record {
       line' = line ++ part;
       front' = gains.stands line f;
@@ -40,9 +42,11 @@ fed r r' was line part front front' e parts h gains f h' =
           (ap (λ z. line ++ z) parts ∙ sym (append_assoc line part (10 ∷ r'.pending))) (no_feed-more line part h' h) st)
     }
 
-pub advanced : (r r' : Reading) (was : Told) (line part : List ℕ) (front front' : Front) → r' ≡ with_pending r r'.pending → Parts false r.pending part r'.pending →
+pub advanced : (r r' : Reading) (was : Told) (line part : List ℕ) (front front' : Front) (m : Bool) → m ≡ false → r' ≡ with_pending r r'.pending → Parts m r.pending part r'.pending →
     HasNoFeed part → Gains front front' part → front.length + length r.pending ≤ r.total → IsFront front line → HasNoFeed line → Advanced r was line r' front'
-advanced r r' was line part front front' e parts h gains counted f h' =
+advanced r r' was line part front front' m t e parted h gains counted f h' =
+    let M : Bool → Type 0 = λ z. Parts z r.pending part r'.pending in
+    let parts = subst M t parted in
     record {
       line' = line ++ part;
       front' = gains.stands line f;
@@ -173,3 +177,33 @@ EachLeft-next p r h lt =
     let P : List ℕ → Type 0 = λ z. IsTrue (p z) in
     let e : r.begun + 0 ≡ r.begun = omega arith in
     subst P (get_or-drop r.begun r.names 0 [] ∙ ap (λ k. get_or r.names k []) e) (h 0 [] (omega (arith, lt, length-drop r.begun r.names)))
+
+pub IsUnfailing-ok : {T U : Type 0} (was now : ℕ) (result : Result T LineFault) (steady : Bool) (x : U) → IsUnfailing was result now steady → IsUnfailing {T = U} was (Ok x) now steady
+IsUnfailing-ok was now result steady x u = record { faults = u.faults; steady = u.steady; begun = λ h. cc; read = λ h. cc }
+
+pub IsUnfailing-err : {T U : Type 0} (was now : ℕ) (fault : LineFault) (steady : Bool) (result : Result U LineFault) → result ≡ Err fault → IsUnfailing {T = T} was (Err fault) now steady →
+    IsUnfailing was result now steady
+IsUnfailing-err was now fault steady result e u = record {
+  faults = u.faults;
+  steady = u.steady;
+  begun = λ h. let k : fault ≡ Begin = cc in u.begun (ap Err k);
+  read = λ h. let k : fault ≡ Read = cc in u.read (ap Err k)
+}
+
+-- the next name of a reader that only moved what was pending
+pub EachLeft-next-after : (p : List ℕ → Bool) (r r1 : Reading) → r1 ≡ with_pending r r1.pending → EachLeft p r → r1.begun < length r1.names → IsTrue (p (next_name r1))
+EachLeft-next-after p r r1 e h lt =
+    let P : Reading → Type 0 = λ z. z.begun < length z.names → IsTrue (p (next_name z)) in
+    subst P (sym e) (EachLeft-next p r h) lt
+
+pub KeepsTelling-begun : (p : List ℕ → Bool) (r r1 r2 : Reading) (now now' : Told) (room left : ℕ) (amid : Bool) → r1 ≡ with_pending r r1.pending → EachLeft p r → length r.names ≤ room + r.begun →
+    r1.begun < length r1.names → r2 ≡ after_begin amid r1 →
+    (IsTrue (p (next_name r1)) → 0 < room → StaysTold now.tried now'.tried × StaysTold now.taken now'.taken × (left + 1 ≡ room)) →
+    KeepsTelling r now room r2 now' left
+KeepsTelling-begun p r r1 r2 now now' room left amid e h enough lt e' t =
+    let begun : r1.begun ≡ r.begun = ap (λ (z : Reading). z.begun) e in
+    let names : r1.names ≡ r.names = ap (λ (z : Reading). z.names) e in
+    let begun' : r2.begun ≡ r1.begun + 1 = ap (λ (z : Reading). z.begun) e' in
+    let some : 0 < room = omega (arith, enough, lt, begun, ap length names) in
+    let k = t (EachLeft-next-after p r r1 e h lt) some in
+    record { tried = k.0; taken = k.1; places = omega (arith, k.2, begun, begun') }
