@@ -7,4 +7,5 @@ pub mod Memory
 pub mod Reading
 pub mod Sink
 pub mod Telling
+pub mod Truthful
 pub mod Turns

@@ -45,6 +45,12 @@ entry_of files part =
     let content = content_of files name in
     record { name = name; bytes = (if part.ended then content else take part.count content); ended = part.ended }
 
+-- where a name is found first, by its places in the two lists
+abbrev pub first_place : Option ℕ → Option ℕ → Option Place
+first_place (Some file) missing = Some (Listed file)
+first_place None (Some place) = Some (Missing place)
+first_place None None = None
+
 -- a name that was tried
 abbrev pub tried_name : List NamedBytes → List (List ℕ) → Place → List ℕ
 tried_name files missing (Listed place) = name_at files place
@@ -72,3 +78,4 @@ pub record IsReadable (files : List NamedBytes) (part : Part) : Type 0 where
   pub listed : part.file < length files
   pub first : content_of files (name_at files part.file) ≡ bytes_at files part.file
   pub within : part.count ≤ length (bytes_at files part.file)
+  pub ended : part.ended ≡ true → part.count ≡ length (bytes_at files part.file)

@@ -1,6 +1,6 @@
-ghost use Rattle.std.specs.Prelude.{◌≡◌, ◌≤◌, ◌<◌, ◌+◌, ◌-◌, ◌&&◌, ◌||◌, ◌==◌, ℕ, Bool, true, false, [], ◌∷◌, ◌++◌, Some, None, IsTrue, IfOk, IfSome, MatchOption, is_none, is_some, length, map, take, option_to_list, vec_len, vec_capacity, nat_lt};
-ghost use Rattle.std.specs.Option.{ForSome};
-ghost use Rattle.cl_io.specs.Memory.{content_of, bytes_at, name_at, has_file, is_known, is_empty, file_place, name_place, entry_of, tried_name, where_told, parts_of, fresh_part, part_after, IsReadable};
+ghost use Rattle.std.specs.Prelude.{◌≡◌, ◌≤◌, ◌<◌, ◌+◌, ◌-◌, ◌&&◌, ◌||◌, ◌==◌, ℕ, Bool, true, false, [], ◌∷◌, ◌++◌, Some, None, IsTrue, IfOk, IfSome, MatchOption, is_none, is_some, length, map, take, option_to_list, vec_len, vec_capacity, nat_lt, if◌then◌else◌};
+ghost use Rattle.std.specs.Option.{ForSome, ForNone};
+ghost use Rattle.cl_io.specs.Memory.{content_of, bytes_at, name_at, has_file, is_known, is_empty, file_place, name_place, entry_of, tried_name, where_told, parts_of, fresh_part, part_after, first_place, IsReadable};
 
 use crate::files::{Failed, Files};
 use crate::script::Script;
@@ -47,6 +47,7 @@ struct Log {
     earlier: Vec<Part>,
     current: Option<Part>,
     ghost tried_room: { vec_len tried + places ≤ vec_capacity tried },
+    ghost none_earlier: { ForNone current (earlier.items ≡ []) },
     ghost earlier_room: { vec_len earlier + places ≤ vec_capacity earlier },
 }
 
@@ -151,6 +152,7 @@ impl MemFiles {
 
     // How many bytes the next read may give at most, which is 0 only where it fails.
     fn allowed(&self) -> u64
+        ensures { self.now.fail_at ≡ None → 0 < result }
     {
         match self.fail_at {
             Some(place) => place.saturating_sub(self.given),
@@ -160,6 +162,8 @@ impl MemFiles {
 }
 
 impl Files for MemFiles {
+    ghost use Rattle.cl_io.specs.Truthful.{truthful_parts};
+
     ghost content = { λ m. content_of m.files };
 
     ghost tried = { λ m. where_told m.log.told (map (tried_name m.files m.missing) m.log.tried.items) };
@@ -176,35 +180,39 @@ impl Files for MemFiles {
 
     ghost there = { λ m. has_file m.files };
 
-    ghost truthful = { ? };
+    ghost truthful = { λ m. truthful_parts m.files m.log.told (parts_of m.log.earlier.items m.log.current) };
 
     fn begin(&mut self, name: &Text) -> Result<(), Failed> {
         let fails = self.script.fails();
         let file = file_at(self.files.as_slice(), name);
-        let place = file.map(Place::Listed).or(name_at(self.missing.as_slice(), name).map(Place::Missing));
-        self.log.begin(place, if fails { None } else { file });
-        if fails || file.is_none() {
+        let missing = name_at(self.missing.as_slice(), name);
+        let begun = unless(fails, file);
+        self.log.begin(place_of(file, missing), begun);
+        if begun.is_none() {
             return Err(self.script.fail());
         }
         Ok(())
     }
 
     fn read(&mut self, buf: &mut [u8]) -> Result<usize, Failed> {
+        if self.script.fails() {
+            return Err(self.script.fail());
+        }
         let allowed = self.allowed();
-        if self.script.fails() || allowed == 0 {
+        if allowed == 0 {
             return Err(self.script.fail());
         }
         let Some(part) = self.log.current else {
             return Ok(0);
         };
-        let rest = &self.files.as_slice()[part.file].bytes.as_slice()[part.count..];
+        let rest = &bytes_of(self.files.as_slice(), part.file)[part.count..];
         let count = rest.len().min(buf.len()).min(allowed as usize);
         buf[..count].copy_from_slice(&rest[..count]);
         self.given = self.given.saturating_add(count as u64);
         self.log.current = Some(Part {
             file: part.file,
             count: part.count + count,
-            ended: part.ended || count == 0,
+            ended: count == 0,
         });
         Ok(count)
     }
@@ -220,4 +228,27 @@ fn name_at(names: &[Text], name: &Text) -> Option<usize>
     ensures { result ≡ name_place names.now name.now }
 {
     names.iter().position(|other| other.as_slice() == name.as_slice())
+}
+
+fn bytes_of(files: &[NamedBytes], place: usize) -> &[u8]
+    requires { place < length files.now }
+    ensures { result.now ≡ bytes_at files.now place }
+{
+    files[place].bytes.as_slice()
+}
+
+fn place_of(file: Option<usize>, missing: Option<usize>) -> Option<Place>
+    ensures { result ≡ first_place file missing }
+{
+    match (file, missing) {
+        (Some(place), _) => Some(Place::Listed(place)),
+        (None, Some(place)) => Some(Place::Missing(place)),
+        (None, None) => None,
+    }
+}
+
+fn unless(fails: bool, file: Option<usize>) -> Option<usize>
+    ensures { result ≡ (if fails then None else file) }
+{
+    if fails { None } else { file }
 }
