@@ -1,4 +1,5 @@
 pub mod Feeds
+pub mod InMemory
 pub mod Nexting
 pub mod Putting
 pub mod Standing

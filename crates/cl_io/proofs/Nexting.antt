@@ -61,7 +61,7 @@ EachLeft-later p q r r' same t le h =
     let P : List ℕ → Type 0 = λ name. IsTrue (p name) in
     let k : r.begun + (r'.begun - r.begun) ≡ r'.begun = omega (arith, le) in
     let left : drop (r'.begun - r.begun) (drop r.begun r.names) ≡ drop r'.begun r'.names =
-      drop-drop (r'.begun - r.begun) r.begun r.names ∙ (ap (λ n. drop n r.names) k ∙ ap (drop r'.begun) (sym t.names)) in
+    drop-drop (r'.begun - r.begun) r.begun r.names ∙ (ap (λ n. drop n r.names) k ∙ ap (drop r'.begun) (sym t.names)) in
     let R : List (List ℕ) → Type 0 = λ names. All P names in
     let Q : (List ℕ → Bool) → Type 0 = λ s. All (λ name. IsTrue (s name)) (drop r'.begun r'.names) in
     subst Q (sym same) (subst R left (All-drop P (r'.begun - r.begun) (drop r.begun r.names) h))
@@ -78,7 +78,7 @@ Kept-none r f h = record {
   telling = λ _ _. record { tried = λ t. t; taken = λ t. t; places = refl };
   content = refl;
   knows = refl;
-  there = refl
+  there = refl;
 }
 
 -- one step more
@@ -93,20 +93,20 @@ Kept-more r r' r'' f f' f'' k task begun most order later unfailing telling cont
       begun = omega (arith, k.begun, begun);
       most = most;
       order = λ base a.
-        let was : List (List ℕ) → Type 0 = λ z. Adds base (take r'.begun z) f'.told.tried in
-        let now : List (List ℕ) → Type 0 = λ z. Adds base (take r''.begun z) f''.told.tried in
-        subst now k.task.names (order base (subst was (sym k.task.names) (k.order base a)));
+          let was : List (List ℕ) → Type 0 = λ z. Adds base (take r'.begun z) f'.told.tried in
+          let now : List (List ℕ) → Type 0 = λ z. Adds base (take r''.begun z) f''.told.tried in
+          subst now k.task.names (order base (subst was (sym k.task.names) (k.order base a)));
       later = omega (arith, k.later, later);
       faultless = λ s h. (unfailing (k.steady s h) (EachLeft-later f.there f'.there r r' k.there k.task k.begun h)).0 ∙ k.faultless s h;
       steady = λ s h. (unfailing (k.steady s h) (EachLeft-later f.there f'.there r r' k.there k.task k.begun h)).1;
       telling = λ h room.
-        let t = k.telling h room in
-        let room' : length r'.names ≤ f'.places + r'.begun = omega (arith, t.places, room, ap length k.task.names) in
-        let u = telling (EachLeft-later f.knows f'.knows r r' k.knows k.task k.begun h) room' in
-        record { tried = λ s. u.tried (t.tried s); taken = λ s. u.taken (t.taken s); places = omega (arith, t.places, u.places) };
+          let t = k.telling h room in
+          let room' : length r'.names ≤ f'.places + r'.begun = omega (arith, t.places, room, ap length k.task.names) in
+          let u = telling (EachLeft-later f.knows f'.knows r r' k.knows k.task k.begun h) room' in
+          record { tried = λ s. u.tried (t.tried s); taken = λ s. u.taken (t.taken s); places = omega (arith, t.places, u.places) };
       content = content ∙ k.content;
       knows = knows ∙ k.knows;
-      there = there ∙ k.there
+      there = there ∙ k.there;
     }
 
 -- What an answer says, from what the last step came to
@@ -123,7 +123,7 @@ Going-more r r1 r2 f f1 f2 front front2 turn going e turned limit kept =
       counted = t.counted;
       limit = limit ∙ going.limit;
       stands = λ base done st. t.stands base done (going.stands base done st);
-      kept = kept
+      kept = kept;
     }
 
 pub gives_line : (r r1 r2 : Reading) (f f1 : Outside) (now : Told) (front front2 : Front) (turn : Turn) (line : Line) (going : Going r f r1 f1 front) → turn ≡ LineEnds →
@@ -181,5 +181,5 @@ unfailing_err r r1 r2 f f1 f2 result x e k k' step p q s h =
       faults = k'.faultless s h;
       steady = k'.steady s h;
       begun = λ b. u.begun (ap Err (same_fault result x e Begin p q b));
-      read = λ b. u.read (ap Err (same_fault result x e Read p q b))
+      read = λ b. u.read (ap Err (same_fault result x e Read p q b));
     }

@@ -56,7 +56,7 @@ Putting-none old bytes = record {
   free = Lowers-none old.free;
   later = omega arith;
   steady = λ h. h;
-  faultless = λ _. faultless_none old.free
+  faultless = λ _. faultless_none old.free;
 }
   where
     faultless_none : (o : Option ℕ) → IfSome o (λ room. length bytes ≤ room → old.faults ≡ old.faults)
@@ -75,10 +75,10 @@ Putting-more old mid new bytes rest n p within written free later steady faultle
       split = p.split ∙ (ap (λ z. p.before ++ z) (sym (take-append-drop n rest)) ∙ (sym (append_assoc p.before (take n rest) (drop n rest)) ∙ ap (λ z. (p.before ++ take n rest) ++ z) (sym (between_to_end rest n (length rest) (omega arith)))));
       written = Adds-more _ p.before mid.written (take n rest) new.written p.written written;
       free = let e : length (p.before ++ take n rest) ≡ length p.before + n = length-append p.before (take n rest) ∙ ap (λ z. length p.before + z) (length-take-le n rest within) in
-        let P : ℕ → Type 0 = λ k. Lowers old.free k new.free in subst P (sym e) (Lowers-more old.free (length p.before) mid.free n new.free p.free free);
+          let P : ℕ → Type 0 = λ k. Lowers old.free k new.free in subst P (sym e) (Lowers-more old.free (length p.before) mid.free n new.free p.free free);
       later = omega (arith, p.later, later);
       steady = λ h. steady (p.steady h);
-      faultless = λ h. room_left (omega (arith, p.split, ap length p.split, length-append p.before rest)) old.free mid.free p.free (p.faultless h) (faultless (p.steady h))
+      faultless = λ h. room_left (omega (arith, p.split, ap length p.split, length-append p.before rest)) old.free mid.free p.free (p.faultless h) (faultless (p.steady h));
     }
   where
     room_left : length bytes ≡ length p.before + length rest → (o m : Option ℕ) → Lowers o (length p.before) m → IfSome o (λ room. length bytes ≤ room → mid.faults ≡ old.faults) →
@@ -96,8 +96,8 @@ Takes-part {E = E} old mid bytes rest result new left p failed same free =
       within = omega (arith, ap length p.split, length-append p.before rest);
       all = not_ok result failed;
       written = let e : take (length p.before) bytes ≡ p.before = ap (take (length p.before)) p.split ∙ take-append_seam p.before rest in
-        rw (e, same) p.written;
-      free = let P : ℕ → Type 0 = λ k. Lowers old.free k left in subst P (add-zero (length p.before)) (Lowers-more old.free (length p.before) mid.free 0 left p.free free)
+          rw (e, same) p.written;
+      free = let P : ℕ → Type 0 = λ k. Lowers old.free k left in subst P (add-zero (length p.before)) (Lowers-more old.free (length p.before) mid.free 0 left p.free free);
     }
   where
     not_ok : (r : Result (Unit {0}) E) → IsErr r → OnOk r (length p.before ≡ length bytes)

@@ -78,10 +78,10 @@ fed_lines true done pending line rest entries e h p =
     record {
       cut = p.cut;
       lines = λ more ended.
-        p.lines more ended ∙
-        (ap (λ z. done ++ lines_of ended z) (ap (λ z. z ++ more) e ∙ append_assoc line (10 ∷ rest) more) ∙
-        (ap (λ z. done ++ z) (lines_of-feed ended line (rest ++ more) h) ∙
-        sym (append_assoc done (line ∷ []) (lines_of ended (rest ++ more)))))
+          p.lines more ended ∙
+          (ap (λ z. done ++ lines_of ended z) (ap (λ z. z ++ more) e ∙ append_assoc line (10 ∷ rest) more) ∙
+          (ap (λ z. done ++ z) (lines_of-feed ended line (rest ++ more) h) ∙
+          sym (append_assoc done (line ∷ []) (lines_of ended (rest ++ more)))));
     }
 fed_lines false done pending line rest entries e h p = absurd (no_feed_in_nothing line rest (sym p.nothing ∙ e))
 
@@ -102,8 +102,8 @@ Took-begun done r entries amid lt t =
       bytes = omega (arith, t.bytes, byte_count-append entries (begun_entry (next_name r) ∷ []));
       lines = record {
         cut = record { earlier = entries; last = begun_entry (next_name r); split = refl; ended = b.ended; not_ended = refl };
-        lines = λ more ended. ap (λ z. z ++ lines_of ended more) b.lines ∙ ap (λ z. done ++ lines_of ended (z ++ more)) (sym b.nothing)
-      }
+        lines = λ more ended. ap (λ z. z ++ lines_of ended more) b.lines ∙ ap (λ z. done ++ lines_of ended (z ++ more)) (sym b.nothing);
+      };
     }
 
 read_bytes : (xs : List Entry) (x y : Entry) (k : ℕ) → length y.bytes ≡ length x.bytes + k → byte_count (xs ++ y ∷ []) ≡ byte_count (xs ++ x ∷ []) + k
@@ -129,19 +129,21 @@ Took-read : (done : List (List ℕ)) (r : Reading) (front entries : List Entry) 
 Took-read done r front entries b bytes amid t =
     let p = amidst done r entries amid t in
     let q : List Entry = p.cut.earlier ++ read_entry (b ∷ bytes) p.cut.last ∷ [] in
-    let L : Bool → Type 0 = λ m. MatchBool m (IsAmid done (r.pending ++ b ∷ bytes) q) (IsBetween done (r.pending ++ b ∷ bytes) q) in
-    (q, read_split (b ∷ bytes) front entries p.cut.earlier p.cut.last p.cut.split,
-     record {
-       names = read_names (b ∷ bytes) p.cut.earlier p.cut.last ∙ (ap names_of (sym p.cut.split) ∙ t.names);
-       bytes = read_bytes p.cut.earlier p.cut.last (read_entry (b ∷ bytes) p.cut.last) (length (b ∷ bytes)) (length-append p.cut.last.bytes (b ∷ bytes))
-         ∙ ap (λ z. z + length (b ∷ bytes)) (ap byte_count (sym p.cut.split) ∙ t.bytes);
-       lines = subst L (sym amid) (record {
-         cut = record { earlier = p.cut.earlier; last = read_entry (b ∷ bytes) p.cut.last; split = refl; ended = p.cut.ended; not_ended = p.cut.not_ended };
-         lines = λ more ended.
-           ap (λ z. whole_lines p.cut.earlier ++ lines_of ended z) (append_assoc p.cut.last.bytes (b ∷ bytes) more) ∙
-           (p.lines ((b ∷ bytes) ++ more) ended ∙ ap (λ z. done ++ lines_of ended z) (sym (append_assoc r.pending (b ∷ bytes) more)))
-       })
-     })
+    let L : Bool → Type 0 = λ m. MatchBool m (IsAmid done (r.pending ++ b ∷ bytes) q) (IsBetween done (r.pending ++ b ∷ bytes) q) in (
+      q,
+      read_split (b ∷ bytes) front entries p.cut.earlier p.cut.last p.cut.split,
+      record {
+        names = read_names (b ∷ bytes) p.cut.earlier p.cut.last ∙ (ap names_of (sym p.cut.split) ∙ t.names);
+        bytes = read_bytes p.cut.earlier p.cut.last (read_entry (b ∷ bytes) p.cut.last) (length (b ∷ bytes)) (length-append p.cut.last.bytes (b ∷ bytes))
+            ∙ ap (λ z. z + length (b ∷ bytes)) (ap byte_count (sym p.cut.split) ∙ t.bytes);
+        lines = subst L (sym amid) (record {
+          cut = record { earlier = p.cut.earlier; last = read_entry (b ∷ bytes) p.cut.last; split = refl; ended = p.cut.ended; not_ended = p.cut.not_ended };
+          lines = λ more ended.
+              ap (λ z. whole_lines p.cut.earlier ++ lines_of ended z) (append_assoc p.cut.last.bytes (b ∷ bytes) more) ∙
+              (p.lines ((b ∷ bytes) ++ more) ended ∙ ap (λ z. done ++ lines_of ended z) (sym (append_assoc r.pending (b ∷ bytes) more)));
+        });
+      },
+    )
 
 Took-ended : (done : List (List ℕ)) (r : Reading) (front entries : List Entry) → r.amid ≡ true → HasNoFeed r.pending → Took done r entries →
     (q : List Entry) × (read_last [] (front ++ entries) ≡ front ++ q) ×
@@ -149,21 +151,23 @@ Took-ended : (done : List (List ℕ)) (r : Reading) (front entries : List Entry)
 Took-ended done r front entries amid h t =
     let p = amidst done r entries amid t in
     let last' = read_entry [] p.cut.last in
-    let q : List Entry = p.cut.earlier ++ last' ∷ [] in
-    (q, read_split [] front entries p.cut.earlier p.cut.last p.cut.split,
-     record {
-       names = read_names [] p.cut.earlier p.cut.last ∙ (ap names_of (sym p.cut.split) ∙ t.names);
-       bytes = read_bytes p.cut.earlier p.cut.last last' 0 (omega arith) ∙ (omega (arith, ap byte_count (sym p.cut.split) ∙ t.bytes));
-       lines = record {
-         ended = All-append IsEnded p.cut.earlier (last' ∷ []) p.cut.ended (All-one IsEnded last' refl);
-         lines =
-           whole_lines-append p.cut.earlier (last' ∷ []) ∙
-           (ap (λ z. whole_lines p.cut.earlier ++ z) (append-nil (lines_of true p.cut.last.bytes)) ∙
-           (ap (λ z. whole_lines p.cut.earlier ++ lines_of true z) (sym (append-nil p.cut.last.bytes)) ∙
-           (p.lines [] true ∙ (ap (λ z. done ++ lines_of true z) (append-nil r.pending) ∙ ap (λ z. done ++ z) (lines_of-end r.pending h)))));
-         nothing = refl
-       }
-     })
+    let q : List Entry = p.cut.earlier ++ last' ∷ [] in (
+      q,
+      read_split [] front entries p.cut.earlier p.cut.last p.cut.split,
+      record {
+        names = read_names [] p.cut.earlier p.cut.last ∙ (ap names_of (sym p.cut.split) ∙ t.names);
+        bytes = read_bytes p.cut.earlier p.cut.last last' 0 (omega arith) ∙ (omega (arith, ap byte_count (sym p.cut.split) ∙ t.bytes));
+        lines = record {
+          ended = All-append IsEnded p.cut.earlier (last' ∷ []) p.cut.ended (All-one IsEnded last' refl);
+          lines =
+              whole_lines-append p.cut.earlier (last' ∷ []) ∙
+              (ap (λ z. whole_lines p.cut.earlier ++ z) (append-nil (lines_of true p.cut.last.bytes)) ∙
+              (ap (λ z. whole_lines p.cut.earlier ++ lines_of true z) (sym (append-nil p.cut.last.bytes)) ∙
+              (p.lines [] true ∙ (ap (λ z. done ++ lines_of true z) (append-nil r.pending) ∙ ap (λ z. done ++ z) (lines_of-end r.pending h)))));
+          nothing = refl;
+        };
+      },
+    )
 
 -- all whole lines were handed out where nothing but the front of a line is left
 cut_lines : (done : List (List ℕ)) (pending : List ℕ) (entries : List Entry) → HasNoFeed pending → IsAmid done pending entries → whole_lines entries ≡ done
@@ -199,8 +203,8 @@ Stands-fed base done r now line rest e h st =
     record {
       tried = st.tried;
       taken = AddsSome-weaker base.taken (Took done r) (Took (done ++ line ∷ []) (with_pending r rest)) now.taken st.taken
-        (λ more t. record { names = t.names; bytes = t.bytes; lines = fed_lines r.amid done r.pending line rest more e h t.lines });
-      within = st.within
+          (λ more t. record { names = t.names; bytes = t.bytes; lines = fed_lines r.amid done r.pending line rest more e h t.lines });
+      within = st.within;
     }
 
 pub Stands-begun : (base : Told) (done : List (List ℕ)) (r : Reading) (now : Told) (tried : Option (List (List ℕ))) (taken : Option (List Entry)) →
@@ -211,8 +215,8 @@ Stands-begun base done r now tried taken amid lt adds adds' st =
     record {
       tried = subst P (sym (take_more r.names r.begun [] lt)) (Adds-more base.tried (take r.begun r.names) now.tried (next_name r ∷ []) tried st.tried adds);
       taken = AddsSome-adds base.taken (Took done r) (Took done (after_begin true r)) now.taken (begun_entry (next_name r) ∷ []) taken st.taken adds'
-        (λ more t. Took-begun done r more amid lt t);
-      within = st.within
+          (λ more t. Took-begun done r more amid lt t);
+      within = st.within;
     }
 
 pub Stands-read : (base : Told) (done : List (List ℕ)) (r : Reading) (now : Told) (tried : Option (List (List ℕ))) (taken : Option (List Entry)) (b : ℕ) (bytes : List ℕ) →
@@ -222,8 +226,8 @@ Stands-read base done r now tried taken b bytes amid same read within st =
     record {
       tried = let P : Option (List (List ℕ)) → Type 0 = λ z. Adds base.tried (take r.begun r.names) z in subst P (sym same) st.tried;
       taken = AddsSome-map base.taken (Took done r) (Took done (record r { pending = r.pending ++ b ∷ bytes; total = r.total + length (b ∷ bytes) })) now.taken taken (read_last (b ∷ bytes)) st.taken read
-        (λ front more t. Took-read done r front more b bytes amid t);
-      within = within
+          (λ front more t. Took-read done r front more b bytes amid t);
+      within = within;
     }
 
 pub Stands-ended : (base : Told) (done : List (List ℕ)) (r : Reading) (now : Told) (tried : Option (List (List ℕ))) (taken : Option (List Entry)) →
@@ -233,8 +237,8 @@ Stands-ended base done r now tried taken amid h same read st =
     record {
       tried = let P : Option (List (List ℕ)) → Type 0 = λ z. Adds base.tried (take r.begun r.names) z in subst P (sym same) st.tried;
       taken = AddsSome-map base.taken (Took done r) (Took (done ++ last_line r.pending) (record r { amid = false; pending = [] })) now.taken taken (read_last []) st.taken read
-        (λ front more t. Took-ended done r front more amid h t);
-      within = st.within
+          (λ front more t. Took-ended done r front more amid h t);
+      within = st.within;
     }
 
 pub finished : (base : Told) (done : List (List ℕ)) (r : Reading) (now : Told) → r.amid ≡ false → length r.names ≤ r.begun →
@@ -242,17 +246,17 @@ pub finished : (base : Told) (done : List (List ℕ)) (r : Reading) (now : Told)
 finished base done r now amid all st =
     AddsSome-weaker base.taken (Took done r) (IsFinished done r) now.taken st.taken
     (λ more t. let b = between done r more amid t in
-      record { names = t.names ∙ take_all r.begun r.names all; ended = b.ended; lines = b.lines; within = omega (arith, t.bytes, st.within) })
+    record { names = t.names ∙ take_all r.begun r.names all; ended = b.ended; lines = b.lines; within = omega (arith, t.bytes, st.within) })
 
 pub unopened : (base : Told) (done : List (List ℕ)) (r : Reading) (now : Told) (taken : Option (List Entry)) (left : List ℕ) → r.amid ≡ false →
     Adds now.taken [] taken → Stands base done r now → AddsSome base.taken (IsUnopened done (with_pending (after_begin false r) left)) taken
 unopened base done r now taken left amid same st =
     AddsSome-adds base.taken (Took done r) (IsUnopened done (with_pending (after_begin false r) left)) now.taken [] taken st.taken same
     (λ more t. let b = between done r more amid t in
-      let Q : List Entry → Type 0 = IsUnopened done (with_pending (after_begin false r) left) in
-      let e : r.begun ≡ r.begun + 1 - 1 = omega arith in
-      subst Q (sym (append-nil more))
-      (record { names = t.names ∙ ap (λ k. take k r.names) e; ended = b.ended; lines = b.lines; within = omega (arith, t.bytes, st.within) }))
+    let Q : List Entry → Type 0 = IsUnopened done (with_pending (after_begin false r) left) in
+    let e : r.begun ≡ r.begun + 1 - 1 = omega arith in
+    subst Q (sym (append-nil more))
+    (record { names = t.names ∙ ap (λ k. take k r.names) e; ended = b.ended; lines = b.lines; within = omega (arith, t.bytes, st.within) }))
 
 -- between two files nothing is pending
 pub Stands-between : (base : Told) (done : List (List ℕ)) (r : Reading) (now : Told) (line : List ℕ) → r.amid ≡ false → r.pending ≡ [] →
@@ -261,10 +265,10 @@ Stands-between base done r now line amid empty st =
     record {
       tried = st.tried;
       taken = AddsSome-weaker base.taken (Took done (with_pending r line)) (Took done r) now.taken st.taken
-        (λ more t. let b = between done (with_pending r line) more amid t in
+          (λ more t. let b = between done (with_pending r line) more amid t in
           let P : Bool → Type 0 = λ m. MatchBool m (IsAmid done r.pending more) (IsBetween done r.pending more) in
           record { names = t.names; bytes = t.bytes; lines = subst P (sym amid) (record { ended = b.ended; lines = b.lines; nothing = empty }) });
-      within = st.within
+      within = st.within;
     }
 
 pub unreadable : (base : Told) (done : List (List ℕ)) (r : Reading) (now : Told) (taken : Option (List Entry)) (left : List ℕ) → r.amid ≡ true → HasNoFeed r.pending →
@@ -273,7 +277,7 @@ unreadable base done r now taken left amid h same st =
     let P : Option (List Entry) → Type 0 = λ z. AddsSome base.taken (IsUnreadable done (with_pending r left)) z in
     subst P (sym same) (AddsSome-weaker base.taken (Took done r) (IsUnreadable done (with_pending r left)) now.taken st.taken
     (λ more t. let p = amidst done r more amid t in
-      record { names = t.names; cut = p.cut; lines = cut_lines done r.pending more h p; within = omega (arith, t.bytes, st.within) }))
+    record { names = t.names; cut = p.cut; lines = cut_lines done r.pending more h p; within = omega (arith, t.bytes, st.within) }))
 
 pub overfull : (base : Told) (done : List (List ℕ)) (r : Reading) (now : Told) (taken : Option (List Entry)) (left : List ℕ) (b : ℕ) → r.amid ≡ true → HasNoFeed r.pending →
     r.total ≡ r.input_limit → taken ≡ option_map (read_last (b ∷ [])) now.taken → Stands base done r now →
@@ -281,14 +285,16 @@ pub overfull : (base : Told) (done : List (List ℕ)) (r : Reading) (now : Told)
 overfull base done r now taken left b amid h full read st =
     AddsSome-map base.taken (Took done r) (IsOverfull done (with_pending r left)) now.taken taken (read_last (b ∷ [])) st.taken read
     (λ front more t.
-      let p = amidst done r more amid t in
-      let last' = read_entry (b ∷ []) p.cut.last in
-      (p.cut.earlier ++ last' ∷ [], read_split (b ∷ []) front more p.cut.earlier p.cut.last p.cut.split,
-       record {
-         names = read_names (b ∷ []) p.cut.earlier p.cut.last ∙ (ap names_of (sym p.cut.split) ∙ t.names);
-         cut = record { earlier = p.cut.earlier; last = last'; split = refl; ended = p.cut.ended; not_ended = p.cut.not_ended };
-         lines =
-           ap whole_lines (first_bytes-less r.input_limit p.cut.earlier p.cut.last b p.cut.not_ended (ap byte_count (sym p.cut.split) ∙ (t.bytes ∙ full))) ∙
-           (ap whole_lines (sym p.cut.split) ∙ cut_lines done r.pending more h p);
-         over = read_bytes p.cut.earlier p.cut.last last' 1 (length-append p.cut.last.bytes (b ∷ [])) ∙ ap (λ z. z + 1) (ap byte_count (sym p.cut.split) ∙ (t.bytes ∙ full))
-       }))
+    let p = amidst done r more amid t in
+    let last' = read_entry (b ∷ []) p.cut.last in (
+      p.cut.earlier ++ last' ∷ [],
+      read_split (b ∷ []) front more p.cut.earlier p.cut.last p.cut.split,
+      record {
+        names = read_names (b ∷ []) p.cut.earlier p.cut.last ∙ (ap names_of (sym p.cut.split) ∙ t.names);
+        cut = record { earlier = p.cut.earlier; last = last'; split = refl; ended = p.cut.ended; not_ended = p.cut.not_ended };
+        lines =
+            ap whole_lines (first_bytes-less r.input_limit p.cut.earlier p.cut.last b p.cut.not_ended (ap byte_count (sym p.cut.split) ∙ (t.bytes ∙ full))) ∙
+            (ap whole_lines (sym p.cut.split) ∙ cut_lines done r.pending more h p);
+        over = read_bytes p.cut.earlier p.cut.last last' 1 (length-append p.cut.last.bytes (b ∷ [])) ∙ ap (λ z. z + 1) (ap byte_count (sym p.cut.split) ∙ (t.bytes ∙ full));
+      },
+    ))

@@ -36,10 +36,10 @@ fed r r' was line part front front' m t e parted h gains f h' =
       line' = line ++ part;
       front' = gains.stands line f;
       stands = λ base done st.
-        let P : Reading → Type 0 = λ z. Stands base (done ++ (line ++ part) ∷ []) z was in
-        subst P (sym e)
-        (Stands-fed base done (before line r) was (line ++ part) r'.pending
-          (ap (λ z. line ++ z) parts ∙ sym (append_assoc line part (10 ∷ r'.pending))) (no_feed-more line part h' h) st)
+          let P : Reading → Type 0 = λ z. Stands base (done ++ (line ++ part) ∷ []) z was in
+          subst P (sym e)
+          (Stands-fed base done (before line r) was (line ++ part) r'.pending
+          (ap (λ z. line ++ z) parts ∙ sym (append_assoc line part (10 ∷ r'.pending))) (no_feed-more line part h' h) st);
     }
 
 pub advanced : (r r' : Reading) (was : Told) (line part : List ℕ) (front front' : Front) (m : Bool) → m ≡ false → r' ≡ with_pending r r'.pending → Parts m r.pending part r'.pending →
@@ -54,9 +54,9 @@ advanced r r' was line part front front' m t e parted h gains counted f h' =
       counted = let t : r'.total ≡ r.total = ap (λ (z : Reading). z.total) e in omega (arith, t, counted, f.counted, length-append line part, ap length parts.0);
       empty = parts.1;
       stands = λ base done st.
-        let P : Reading → Type 0 = λ z. Stands base done z was in
-        let same : with_pending r' (line ++ part) ≡ with_pending r (line ++ part) = ap (λ z. with_pending z (line ++ part)) e in
-        subst P (ap (λ z. with_pending r (line ++ z)) parts.0 ∙ sym same) st
+          let P : Reading → Type 0 = λ z. Stands base done z was in
+          let same : with_pending r' (line ++ part) ≡ with_pending r (line ++ part) = ap (λ z. with_pending z (line ++ part)) e in
+          subst P (ap (λ z. with_pending r (line ++ z)) parts.0 ∙ sym same) st;
     }
 
 -- more of the file came, or it ended where no line was begun
@@ -73,14 +73,15 @@ read_on r r1 r2 was line [] front tried taken a amid e m within same read =
       no_feed = λ k d lt. absurd (omega (arith, lt));
       counted = omega arith;
       stands = λ base done st.
-        let Q : List (List ℕ) → Type 0 = λ z. Stands base z (record r1 { amid = false; pending = [] }) (told tried taken) in
-        subst Q (ap (λ z. done ++ z) (last_line-none a.line' none) ∙ append-nil done)
-        (Stands-ended base done (with_pending r1 a.line') was tried taken amid a.no_feed same read (a.stands base done st))
+          let Q : List (List ℕ) → Type 0 = λ z. Stands base z (record r1 { amid = false; pending = [] }) (told tried taken) in
+          subst Q (ap (λ z. done ++ z) (last_line-none a.line' none) ∙ append-nil done)
+          (Stands-ended base done (with_pending r1 a.line') was tried taken amid a.no_feed same read (a.stands base done st));
     })
   where
     nil : (xs : List ℕ) → length xs ≡ 0 → xs ≡ []
     nil [] h = refl
     nil (x ∷ xs) h = absurd (omega (arith, h))
+
     no_line : (r2.amid ≡ true) ⊎ (front.length ≡ 0) → length a.line' ≡ 0
     no_line (inl h) = let bad : false ≡ true = sym (ap (λ (z : Reading). z.amid) e) ∙ h in cc
     no_line (inr h) = omega (arith, h, a.front'.counted)
@@ -94,7 +95,7 @@ read_on r r1 r2 was line (b ∷ bytes) front tried taken a amid e m within same 
       no_feed = a.no_feed;
       counted = omega (arith, a.counted);
       stands = λ base done st.
-        Stands-read base done (with_pending r1 a.line') was tried taken b bytes amid same read (omega (arith, within, total, limit)) (a.stands base done st)
+          Stands-read base done (with_pending r1 a.line') was tried taken b bytes amid same read (omega (arith, within, total, limit)) (a.stands base done st);
     })
 
 -- the file ended, and so its last line
@@ -107,9 +108,9 @@ line_ended r r1 r2 was line [] front tried taken a amid e m some same read =
       line' = a.line';
       front' = a.front';
       stands = λ base done st.
-        let Q : List (List ℕ) → Type 0 = λ z. Stands base z (record r1 { amid = false; pending = [] }) (told tried taken) in
-        subst Q (ap (λ z. done ++ z) (last_line-some a.line' (omega (arith, some, a.front'.counted))))
-        (Stands-ended base done (with_pending r1 a.line') was tried taken amid a.no_feed same read (a.stands base done st))
+          let Q : List (List ℕ) → Type 0 = λ z. Stands base z (record r1 { amid = false; pending = [] }) (told tried taken) in
+          subst Q (ap (λ z. done ++ z) (last_line-some a.line' (omega (arith, some, a.front'.counted))))
+          (Stands-ended base done (with_pending r1 a.line') was tried taken amid a.no_feed same read (a.stands base done st));
     })
 line_ended r r1 r2 was line (b ∷ bytes) front tried taken a amid e m some same read =
     let bad : true ≡ false = sym amid ∙ (sym (ap (λ (z : Reading). z.amid) e) ∙ m) in cc
@@ -125,9 +126,9 @@ begun_on r r1 r2 was line front tried taken a amid lt e adds adds' =
       no_feed = a.no_feed;
       counted = omega (arith, a.counted, ap length a.empty);
       stands = λ base done st.
-        let Q : List ℕ → Type 0 = λ z. Stands base done (with_pending (after_begin true r1) z) (told tried taken) in
-        subst Q (sym (ap (λ z. a.line' ++ z) a.empty ∙ append-nil a.line'))
-        (Stands-begun base done (with_pending r1 a.line') was tried taken amid lt adds adds' (a.stands base done st))
+          let Q : List ℕ → Type 0 = λ z. Stands base done (with_pending (after_begin true r1) z) (told tried taken) in
+          subst Q (sym (ap (λ z. a.line' ++ z) a.empty ∙ append-nil a.line'))
+          (Stands-begun base done (with_pending r1 a.line') was tried taken amid lt adds adds' (a.stands base done st));
     })
 
 pub all_ended : (r r1 r2 : Reading) (was : Told) (line : List ℕ) (front : Front) → Advanced r was line r1 front → r1.amid ≡ false → length r1.names ≤ r1.begun → r2 ≡ r1 →
@@ -136,7 +137,7 @@ all_ended r r1 r2 was line front a amid all e =
     let P : Reading → Type 0 = λ z. EndsAll r was line z was in
     subst P (sym e) (record {
       stands = λ base done st. Stands-between base done r1 was a.line' amid a.empty (a.stands base done st);
-      finished = λ base done st. finished base done r1 was amid all (Stands-between base done r1 was a.line' amid a.empty (a.stands base done st))
+      finished = λ base done st. finished base done r1 was amid all (Stands-between base done r1 was a.line' amid a.empty (a.stands base done st));
     })
 
 pub stops_unopened : (r r1 r2 : Reading) (was : Told) (line : List ℕ) (front : Front) (tried : Option (List (List ℕ))) (taken : Option (List Entry)) →
@@ -187,7 +188,7 @@ IsUnfailing-err was now fault steady result e u = record {
   faults = u.faults;
   steady = u.steady;
   begun = λ h. let k : fault ≡ Begin = cc in u.begun (ap Err k);
-  read = λ h. let k : fault ≡ Read = cc in u.read (ap Err k)
+  read = λ h. let k : fault ≡ Read = cc in u.read (ap Err k);
 }
 
 -- the next name of a reader that only moved what was pending

@@ -56,7 +56,7 @@ pub record IsBetween (done : List (List ℕ)) (pending : List ℕ) (entries : Li
 pub record IsAmid (done : List (List ℕ)) (pending : List ℕ) (entries : List Entry) : Type 0 where
   pub cut : IsCutShort entries
   pub lines : (more : List ℕ) (ended : Bool) →
-    whole_lines cut.earlier ++ lines_of ended (cut.last.bytes ++ more) ≡ done ++ lines_of ended (pending ++ more)
+      whole_lines cut.earlier ++ lines_of ended (cut.last.bytes ++ more) ≡ done ++ lines_of ended (pending ++ more)
 
 -- these were taken, and of their lines these were handed out
 pub record Took (done : List (List ℕ)) (reading : Reading) (entries : List Entry) : Type 0 where

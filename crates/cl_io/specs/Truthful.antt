@@ -12,13 +12,15 @@ truthful_entry : (content : List ℕ → List ℕ) (name : List ℕ) (count : �
 truthful_entry content name count true = record { begins = ([], sym (append-nil (content name))); whole = λ _. refl }
 truthful_entry content name count false = record { begins = (drop count (content name), sym (take-append-drop count (content name))); whole = λ h. cc }
 
+All-more : {A : Type 0} (P : A → Type 0) (x : A) (xs : List A) → P x → All P xs → All P (x ∷ xs)
+All-more P x xs h hs zero d lt = h
+All-more P x xs h hs (suc k) d lt = hs k d (omega (arith, lt))
+
 truthful_entries : (files : List NamedBytes) (parts : List Part) → All (IsOfContent (content_of files)) (map (entry_of files) parts)
 truthful_entries files [] = λ k d lt. absurd (omega (arith, lt))
-truthful_entries files (part ∷ parts) = λ k d lt. at k d lt
-  where
-    at : (k : ℕ) (d : Entry) → k < length (map (entry_of files) (part ∷ parts)) → IsOfContent (content_of files) (get_or (map (entry_of files) (part ∷ parts)) k d)
-    at zero d lt = truthful_entry (content_of files) (name_at files part.file) part.count part.ended
-    at (suc k) d lt = truthful_entries files parts k d (omega (arith, lt))
+truthful_entries files (part ∷ parts) =
+    All-more (IsOfContent (content_of files)) (entry_of files part) (map (entry_of files) parts)
+    (truthful_entry (content_of files) (name_at files part.file) part.count part.ended) (truthful_entries files parts)
 
 pub truthful_parts : (files : List NamedBytes) (told : Bool) (parts : List Part) → IfSome (where_told told (map (entry_of files) parts)) (All (IsOfContent (content_of files)))
 truthful_parts files true parts = truthful_entries files parts

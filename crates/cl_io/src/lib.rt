@@ -19,3 +19,6 @@ pub use mem_sink::MemSink;
 pub use sink::{Sink, put};
 pub use std_files::StdFiles;
 pub use std_sink::StdSink;
+
+#[cfg(test)]
+mod tests;

@@ -244,7 +244,11 @@ impl Lines {
         }
         if self.amid {
             let more = self.fill(files)?;
-            Ok(if more || front.length == 0 { Turn::On } else { Turn::LineEnds })
+            Ok(if more || front.length == 0 {
+                Turn::On
+            } else {
+                Turn::LineEnds
+            })
         } else {
             let more = self.begin(files)?;
             Ok(if more { Turn::On } else { Turn::NoMore })

@@ -221,13 +221,17 @@ impl Files for MemFiles {
 fn file_at(files: &[NamedBytes], name: &Text) -> Option<usize>
     ensures { result ≡ file_place files.now name.now }
 {
-    files.iter().position(|file| file.name.as_slice() == name.as_slice())
+    files
+        .iter()
+        .position(|file| file.name.as_slice() == name.as_slice())
 }
 
 fn name_at(names: &[Text], name: &Text) -> Option<usize>
     ensures { result ≡ name_place names.now name.now }
 {
-    names.iter().position(|other| other.as_slice() == name.as_slice())
+    names
+        .iter()
+        .position(|other| other.as_slice() == name.as_slice())
 }
 
 fn bytes_of(files: &[NamedBytes], place: usize) -> &[u8]

@@ -22,7 +22,12 @@ impl MemSink {
 
     /// A sink with room for so many bytes, which takes at most `piece` bytes at once. The writes whose numbers, counted
     /// from 1, are in `fail_calls` fail, and so does each one where there is no room.
-    pub fn new(alloc: Global, fail_calls: List<u64>, piece: u32, room: u64) -> Result<MemSink, NoMemory>
+    pub fn new(
+        alloc: Global,
+        fail_calls: List<u64>,
+        piece: u32,
+        room: u64,
+    ) -> Result<MemSink, NoMemory>
         requires { 1 ≤ piece }
         ensures written { IfOk result (λ made. ⟦<MemSink as Sink>⟧.written made ≡ Some []) }
         ensures free { IfOk result (λ made. ⟦<MemSink as Sink>⟧.free made ≡ Some room) }
@@ -64,11 +69,17 @@ impl Sink for MemSink {
     ghost free = { λ sink. Some sink.room };
 
     fn write(&mut self, bytes: &[u8]) -> Result<usize, Failed> {
-        let count = (bytes.len() as u64).min(self.room).min(u64::from(self.piece));
+        let count = (bytes.len() as u64)
+            .min(self.room)
+            .min(u64::from(self.piece));
         if self.script.fails() || count == 0 {
             return Err(self.script.fail());
         }
-        if self.bytes.extend_from_slice(&bytes[..count as usize]).is_err() {
+        if self
+            .bytes
+            .extend_from_slice(&bytes[..count as usize])
+            .is_err()
+        {
             return Err(self.script.fail());
         }
         self.room -= count;

@@ -56,7 +56,9 @@ impl<R: std::rt::Files + Input> Files for StdFiles<R> {
             self.source = Some(Source::Input(self.rt.reader()));
             return Ok(());
         }
-        let opened = str::from_utf8(name.as_slice()).ok().and_then(|path| fs::open(&self.rt, path).ok());
+        let opened = str::from_utf8(name.as_slice())
+            .ok()
+            .and_then(|path| fs::open(&self.rt, path).ok());
         match opened {
             Some(file) => {
                 self.source = Some(Source::File(file));

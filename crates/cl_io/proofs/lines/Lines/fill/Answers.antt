@@ -15,5 +15,7 @@ returns-then-count-left-clause-over g c =
     let one : length xs ≡ 1 = omega (arith, c.min.ensures, c.max-most.ensures, read.count, c.if-count-left.true) in
     let total : c.self.inside.total ≡ c.args.self.now.total = ap (λ (z : Reading). z.total) c.self.view_is in
     let limit : c.self.inside.input_limit ≡ c.args.self.now.input_limit = ap (λ (z : Reading). z.input_limit) c.self.view_is in
-    λ _. (omega (arith, c.min.ensures, c.max-most.ensures, read.count, c.if-count-left.true, total, limit, c.self.invariant),
-      (get_or xs 0 0, read.taken ∙ ap (λ z. option_map (read_last z) (g.F.Files.taken c.args.files.now)) (one_byte xs one)))
+    λ _. (
+      omega (arith, c.min.ensures, c.max-most.ensures, read.count, c.if-count-left.true, total, limit, c.self.invariant),
+      (get_or xs 0 0, read.taken ∙ ap (λ z. option_map (read_last z) (g.F.Files.taken c.args.files.now)) (one_byte xs one)),
+    )

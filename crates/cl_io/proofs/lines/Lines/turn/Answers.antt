@@ -19,9 +19,9 @@ returns-in_err-more-clause-turns g c = λ line f h.
     let amid : c.advance.new.self.amid ≡ true = sym (ap (λ (z : Reading). z.amid) c.self.view_is) ∙ c.if-self.true in
     let r = err_from_is_err_and c.from_residual-in_err-more.result c.from_residual-in_err-more.ensures.1 in
     Turns-err _ _ _ _ line _ _ r.0 r.1
-      (λ k. absurd (q.no_begin (ap Err (sym r.2 ∙ k))))
-      (λ k. stops_unreadable _ _ _ _ line _ (g.F.Files.tried c.fill.new.files) _ a amid q.err (q.read (ap Err (sym r.2 ∙ k))))
-      (λ k. let o = q.over (ap Err (sym r.2 ∙ k)) in stops_overfull _ _ _ _ line _ (g.F.Files.tried c.fill.new.files) _ o.1.0 a amid q.err o.0 o.1.1)
+    (λ k. absurd (q.no_begin (ap Err (sym r.2 ∙ k))))
+    (λ k. stops_unreadable _ _ _ _ line _ (g.F.Files.tried c.fill.new.files) _ a amid q.err (q.read (ap Err (sym r.2 ∙ k))))
+    (λ k. let o = q.over (ap Err (sym r.2 ∙ k)) in stops_overfull _ _ _ _ line _ (g.F.Files.tried c.fill.new.files) _ o.1.0 a amid q.err o.0 o.1.1)
 
 pub returns-then-front-eq0-clause-turns : goal.returns-then-front-eq0-clause-turns
 returns-then-front-eq0-clause-turns g c = λ line f h.
@@ -38,9 +38,9 @@ returns-else-front-eq0-clause-turns g c = λ line f h.
     let q = c.in_ok-more.ensures in
     let amid : c.advance.new.self.amid ≡ true = sym (ap (λ (z : Reading). z.amid) c.self.view_is) ∙ c.if-self.true in
     line_ended _ _ _ _ line _ _ _ _ a amid q.reads.0
-      (elim c.if-more.branch [ then-more w ↦ (let v = w.value-is in let t = c.if-front-eq0.false in cc) | else-more w ↦ (let m = w.if-more.false in sym q.reads.1 ∙ m) ])
-      (elim c.if-more.branch [ then-more w ↦ (let v = w.value-is in let t = c.if-front-eq0.false in absurd (grind (arith, nat_tests))) | else-more w ↦ (let v = w.value-is in let t = c.if-front-eq0.false in grind (arith, nat_tests)) ])
-      q.tried q.taken
+    (elim c.if-more.branch [ then-more w ↦ (let v = w.value-is in let t = c.if-front-eq0.false in cc) | else-more w ↦ (let m = w.if-more.false in sym q.reads.1 ∙ m) ])
+    (elim c.if-more.branch [ then-more w ↦ (let v = w.value-is in let t = c.if-front-eq0.false in absurd (grind (arith, nat_tests))) | else-more w ↦ (let v = w.value-is in let t = c.if-front-eq0.false in grind (arith, nat_tests)) ])
+    q.tried q.taken
 
 pub returns-then-more-2-clause-turns : goal.returns-then-more-2-clause-turns
 returns-then-more-2-clause-turns g c = λ line f h.
