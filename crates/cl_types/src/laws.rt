@@ -3,6 +3,7 @@
 ghost use Rattle.std.specs.Prelude.{◌≡◌, ◌+◌, ◌^◌, ◌<◌, ◌≤◌, ℕ, List};
 ghost use Rattle.std.specs.declared.cmp.Ordering.TheVariants.{Equal};
 ghost use Rattle.cl_types.specs.declared.addr.Addr.{Addr};
+ghost use Rattle.cl_types.specs.declared.addr.Addr.TheVariants.{V4};
 ghost use Rattle.cl_types.specs.declared.keys.RuleKey.{RuleKey};
 ghost use Rattle.cl_types.specs.declared.keys.PodKey.{PodKey};
 ghost use Rattle.cl_types.specs.Addr.{addr_order, width_of, number_of};
@@ -44,5 +45,11 @@ pub fn written_is_read()
     ensures addresses { (a : Addr) → number_of a < 2 ^ width_of a → IsAddress (address_text a) a }
     ensures prefixes { (b : Block) → number_of b.base < 2 ^ width_of b.base → IsBlock b.base b.len
         → IsPrefix (prefix_text b) b }
+{
+}
+
+/// A text of an IPv4 address is the one that is written.
+pub fn decimals_have_one_text()
+    ensures { (text : List ℕ) (n : ℕ) → IsAddress text (V4 n) → (text ≡ address_text (V4 n)) × (n < 2 ^ 32) }
 {
 }

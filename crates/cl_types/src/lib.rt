@@ -20,7 +20,7 @@ pub use addr::Addr;
 pub use copies::Copies;
 pub use keyed::{Keyed, find, put, search};
 pub use keys::{Dir, PodKey, PolicyKey, PolicyKind, RuleKey, rule_cmp};
-pub use laws::{orders_are_exact, texts_have_one_reading, texts_tell_names_apart, written_is_read};
+pub use laws::{decimals_have_one_text, orders_are_exact, texts_have_one_reading, texts_tell_names_apart, written_is_read};
 pub use list::List;
 pub use memory::NoMemory;
 pub use prefix::Prefix;
