@@ -1,2 +1,3 @@
 pub mod CanonicalNeeds
+pub mod Listings
 pub mod SortedSets

@@ -6,9 +6,11 @@ mod forms;
 mod group;
 mod labels;
 mod selector;
+mod written;
 
 pub use canonical::canon;
 pub use forms::{is_label_key, is_label_value, is_namespace_name, is_object_name};
 pub use group::{GroupKey, Scope};
 pub use labels::{Label, Labels};
 pub use selector::{Need, Op, Selector};
+pub use written::write_group;
