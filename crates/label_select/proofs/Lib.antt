@@ -1,3 +1,5 @@
 pub mod CanonicalNeeds
+pub mod FormBytes
+pub mod GroupTexts
 pub mod Listings
 pub mod SortedSets

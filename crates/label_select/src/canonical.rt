@@ -2,7 +2,7 @@ ghost use Rattle.std.specs.Prelude.{◌≡◌, List as Items, IfOk, OnOk};
 ghost use Rattle.std.specs.List.{list_all};
 ghost use Rattle.std.specs.declared.cmp.Ordering.TheVariants.{Equal};
 ghost use Rattle.label_select.specs.declared.labels.Label.{Label};
-ghost use Rattle.label_select.specs.Selection.{meets, selects};
+ghost use Rattle.label_select.specs.Selection.{IsNeed, meets, selects};
 ghost use Rattle.label_select.specs.Canonical.{sorted_set, with_sorted_values, canonical};
 
 use crate::selector::{Need, Selector};
@@ -25,7 +25,8 @@ pub fn canon(alloc: Global, mut needs: List<Need>) -> Result<Selector, NoMemory>
 }
 
 fn sort_values(need: Need) -> Result<Need, NoMemory>
-    ensures { IfOk result (λ sorted. sorted ≡ with_sorted_values need) }
+    ensures sorted { IfOk result (λ sorted. sorted ≡ with_sorted_values need) }
+    ensures form { IfOk result IsNeed }
 {
     let Need {
         key,

@@ -13,4 +13,4 @@ pub use forms::{is_label_key, is_label_value, is_namespace_name, is_object_name}
 pub use group::{GroupKey, Scope};
 pub use labels::{Label, Labels};
 pub use selector::{Need, Op, Selector};
-pub use written::write_group;
+pub use written::{group_texts_differ, write_group};

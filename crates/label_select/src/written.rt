@@ -1,5 +1,6 @@
 //! The texts of groups.
 ghost use Rattle.std.specs.Prelude.{◌≡◌, ℕ, List as Items, ◌++◌, map, codes, OnOk, OnErr};
+ghost use Rattle.label_select.specs.Group.{Group, IsGroup};
 ghost use Rattle.label_select.specs.Written.{listed, need_text, selector_text, scope_text, group_text};
 
 use crate::group::{GroupKey, Scope};
@@ -92,4 +93,10 @@ pub fn write_group(out: &mut Text, g: &GroupKey) -> Result<(), NoMemory>
     write_selector(&mut text, &g.pods)?;
     bytes.extend_from_slice(text.as_slice())?;
     Ok(())
+}
+
+/// Different groups have different texts.
+pub fn group_texts_differ()
+    ensures { (a b : Group) → IsGroup a → IsGroup b → group_text a ≡ group_text b → a ≡ b }
+{
 }
