@@ -1,6 +1,7 @@
 //! The texts of groups.
 ghost use Rattle.std.specs.Prelude.{◌≡◌, ℕ, List as Items, ◌++◌, map, codes, OnOk, OnErr};
-ghost use Rattle.label_select.specs.Group.{Group, IsGroup};
+ghost use Rattle.label_select.specs.Canonical.{IsSelection};
+ghost use Rattle.label_select.specs.Group.{Group, IsScope, IsWholeScope, IsGroup};
 ghost use Rattle.label_select.specs.Written.{listed, need_text, selector_text, scope_text, group_text};
 
 use crate::group::{GroupKey, Scope};
@@ -63,16 +64,19 @@ fn write_listed<T: Written>(out: &mut Vec<u8>, items: &[T]) -> Result<(), NoMemo
 }
 
 fn write_selector(out: &mut Vec<u8>, selector: &Selector) -> Result<(), NoMemory>
-    ensures { OnOk result (out.new.items ≡ out.old.items ++ selector_text selector.now) }
+    ensures text { OnOk result (out.new.items ≡ out.old.items ++ selector_text selector.now) }
+    ensures form { IsSelection selector.now }
 {
+    let needs = selector.needs.as_slice();
     out.push(b'[')?;
-    write_listed(out, selector.needs.as_slice())?;
+    write_listed(out, needs)?;
     out.push(b']')?;
     Ok(())
 }
 
 fn write_scope(out: &mut Vec<u8>, scope: &Scope) -> Result<(), NoMemory>
-    ensures { OnOk result (out.new.items ≡ out.old.items ++ scope_text scope.now) }
+    ensures text { OnOk result (out.new.items ≡ out.old.items ++ scope_text scope.now) }
+    ensures form { IsScope scope.now → IsWholeScope scope.now }
 {
     match scope {
         Scope::Namespace(name) => name.write(out),
@@ -85,6 +89,7 @@ fn write_scope(out: &mut Vec<u8>, scope: &Scope) -> Result<(), NoMemory>
 pub fn write_group(out: &mut Text, g: &GroupKey) -> Result<(), NoMemory>
     ensures ok { OnOk result (out.new ≡ out.old ++ group_text g.now) }
     ensures err { OnErr result (out.new ≡ out.old) }
+    ensures form { OnOk result (IsGroup g.now) }
 {
     let bytes = out.vec_mut();
     let mut text = Vec::new(*bytes.allocator());
