@@ -4,6 +4,8 @@ ghost use Rattle.std.specs.List.{list_all, slice_split, position};
 ghost use Rattle.std.specs.Char.{is_ascii_alphanumeric};
 ghost use Rattle.label_select.specs.Forms.{is_small, is_part_byte, is_label_byte, ends_pass, is_part, is_namespace_name, is_object_name, is_name_part, is_label_key, is_label_value};
 
+use cl_types::Text;
+
 /// Whether a namespace can have this name: 1 to 63 of `a` to `z`, `0` to `9` and `-`, with a letter or
 /// digit at both ends.
 #[tactic(auto, unfolding(crate::specs::Forms::is_namespace_name))]
@@ -52,6 +54,13 @@ pub fn is_label_value(text: &[u8]) -> bool
     ensures { result ≡ is_label_value text.now }
 {
     text.is_empty() || is_name_part(text)
+}
+
+/// Whether labels can have all these values.
+pub fn are_label_values(texts: &[Text]) -> bool
+    ensures { result ≡ list_all is_label_value texts.now }
+{
+    texts.iter().all(|text| is_label_value(text.as_slice()))
 }
 
 #[tactic(auto, unfolding(crate::specs::Forms::is_part))]
