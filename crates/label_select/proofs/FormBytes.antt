@@ -1,10 +1,10 @@
 -- Which bytes stand in texts of each form.
-use Rattle.std.proofs.Common.{◌≡◌, ℕ, suc, ◌+◌, Some, None, List, [], ◌∷◌, length, take, drop, Bool, true, false, not, cond, ◌&&◌, ◌||◌, ◌==◌, ltb, refl, sym, ap, subst, ◌∙◌, inl, inr, ⊎_elim, add-one, arith}
-use Rattle.std.specs.List.{list_all, slice_split, onto_first, position, position_or_len}
+use Rattle.std.proofs.Common.{◌≡◌, ℕ, suc, ◌+◌, Some, None, List, [], ◌∷◌, length, take, drop, Bool, true, false, not, cond, ◌&&◌, ◌||◌, ◌==◌, ltb, refl, sym, add-one, arith}
+use Rattle.std.specs.List.{list_all, slice_split, onto_first, position_or_len}
 use Rattle.std.specs.Option.{option_map_or}
-use Rattle.std.specs.Char.{is_ascii_alphanumeric, is_ascii_lowercase, is_ascii_digit}
-use Rattle.std.proofs.lemmas.Bool.{and_parts, and_from, or_cases, or_left, or_right, ne_eqb, true≢false}
-use Rattle.label_select.specs.Forms.{is_small, is_part_byte, is_label_byte, ends_pass, is_part, is_namespace_name, is_object_name, is_name_part, is_label_key, is_label_value}
+use Rattle.std.specs.Char.{is_ascii_lowercase, is_ascii_digit}
+use Rattle.std.proofs.lemmas.Bool.{and_parts, and_from, or_left, or_right, ne_eqb, true≢false}
+use Rattle.label_select.specs.Forms.{is_part_byte, is_label_byte, is_part, is_namespace_name, is_object_name, is_name_part, is_label_key, is_label_value}
 
 -- what stands in a label's key: the bytes of names and `/`
 abbrev pub is_key_byte : ℕ → Bool
@@ -43,7 +43,7 @@ module _ {T : Type 0} (p q : T → Bool) (wider : (x : T) → p x ≡ true → q
 
   -- all pass where all do in the parts of a text that is cut at p
   onto_first_all : (x : T) (parts : List (List T)) → list_all (list_all q) (onto_first x parts) ≡ true → (q x ≡ true) × (list_all (list_all q) parts ≡ true)
-  onto_first_all x [] all = (( and_parts (q x) true ((and_parts (q x && true) true all).0)).0, refl)
+  onto_first_all x [] all = ((and_parts (q x) true ((and_parts (q x && true) true all).0)).0, refl)
   onto_first_all x (part ∷ parts) all =
       let first = and_parts (q x && list_all q part) (list_all (list_all q) parts) all in
       let one = and_parts (q x) (list_all q part) first.0 in

@@ -1,6 +1,6 @@
 -- Texts of groups tell groups apart: a text is read from the left, and each piece ends before a byte that
 -- its form excludes.
-use Rattle.std.proofs.Common.{◌≡◌, ℕ, List, [], ◌∷◌, ◌++◌, length, codes, Bool, true, false, not, ◌==◌, ◌||◌, ◌⊎◌, inl, inr, ⊎_elim, map, refl, sym, ap, subst, ◌∙◌, append_assoc, append-nil, arith}
+use Rattle.std.proofs.Common.{◌≡◌, ℕ, List, [], ◌∷◌, ◌++◌, length, codes, Bool, true, false, not, ◌==◌, ◌⊎◌, inl, inr, ⊎_elim, map, refl, sym, ap, subst, ◌∙◌, append_assoc, append-nil, arith}
 use Rattle.std.specs.List.{list_all, AllByRecursion}
 use Rattle.std.proofs.lemmas.Bool.{and_parts, both_ways, eq-eqb, ne_eqb, true≢false}
 use Rattle.label_select.specs.declared.selector.Op.{Op}

@@ -4,6 +4,11 @@ use std::alloc::Global;
 use std::process::Abort;
 use std::test::Fail;
 
+// What was made, where there was memory for it.
+fn made<T>(rt: &impl Abort, made: Result<T, NoMemory>) -> T {
+    made.expect(rt, "memory")
+}
+
 fn text(alloc: Global, bytes: &[u8]) -> Result<Text, NoMemory> {
     Ok(Text::of(Vec::from_slice(alloc, bytes)?))
 }
@@ -43,12 +48,7 @@ fn selector(
 }
 
 // What the operator with these values at `app` selects: `app=web`, `app=job` and no labels.
-fn selects(
-    rt: &impl Abort,
-    alloc: Global,
-    op: Op,
-    words: &[&[u8]],
-) -> Result<[bool; 3], NoMemory> {
+fn selects(rt: &impl Abort, alloc: Global, op: Op, words: &[&[u8]]) -> Result<[bool; 3], NoMemory> {
     let selector = selector(rt, alloc, b"app", op, words)?;
     let web = label(alloc, b"app", b"web")?;
     let job = label(alloc, b"app", b"job")?;
@@ -91,21 +91,17 @@ fn both(alloc: Global, first: Need, second: Need) -> Result<Selector, NoMemory> 
 }
 
 #[test]
-fn order_of_needs(rt: HostRuntime) -> Result<(), Fail> {
+fn order_of_needs(rt: HostRuntime) {
     let alloc = rt.alloc();
-    let there = both(alloc, any_app(&rt, alloc)?, no_env(&rt, alloc)?)?;
-    let back = both(alloc, no_env(&rt, alloc)?, any_app(&rt, alloc)?)?;
+    let app = made(&rt, any_app(&rt, alloc));
+    let env = made(&rt, no_env(&rt, alloc));
+    let there = made(
+        &rt,
+        both(alloc, made(&rt, app.copy()), made(&rt, env.copy())),
+    );
+    let back = made(&rt, both(alloc, env, app));
     assert!(rt; there.same(&back));
-    assert!(rt; copies(&there)?);
-    Ok(())
-}
-
-#[test]
-fn repeated_needs(rt: HostRuntime) -> Result<(), Fail> {
-    let alloc = rt.alloc();
-    let once = both(alloc, no_env(&rt, alloc)?, no_env(&rt, alloc)?)?;
-    assert!(rt; once.needs.as_slice().len() == 1);
-    Ok(())
+    assert!(rt; made(&rt, copies(&there)));
 }
 
 fn in_shop(rt: &impl Abort, alloc: Global) -> Result<GroupKey, NoMemory> {
@@ -127,40 +123,36 @@ fn in_teams(rt: &impl Abort, alloc: Global) -> Result<GroupKey, NoMemory> {
 }
 
 #[test]
-fn group_texts(rt: HostRuntime) -> Result<(), Fail> {
+fn group_texts(rt: HostRuntime) {
     let alloc = rt.alloc();
-    let mut out = text(alloc, b"> ")?;
-    write_group(&mut out, &in_teams(&rt, alloc)?)?;
-    write_group(&mut out, &in_shop(&rt, alloc)?)?;
+    let mut out = made(&rt, text(alloc, b"> "));
+    made(&rt, write_group(&mut out, &made(&rt, in_teams(&rt, alloc))));
+    made(&rt, write_group(&mut out, &made(&rt, in_shop(&rt, alloc))));
     let want = b"> [k8s.io/team in (a,b)]/[app,!env]shop/[app notin (web)]";
     assert!(rt; out.as_slice() == want.as_slice());
-    Ok(())
 }
 
 #[test]
-fn members_by_name(rt: HostRuntime) -> Result<(), Fail> {
+fn members_by_name(rt: HostRuntime) {
     let alloc = rt.alloc();
-    let group = in_shop(&rt, alloc)?;
+    let group = made(&rt, in_shop(&rt, alloc));
     let none = Labels::new(alloc);
-    assert!(rt; group.has(&text(alloc, b"shop")?, &none, &none));
-    assert!(rt; !group.has(&text(alloc, b"till")?, &none, &none));
-    assert!(rt; copies(&group)?);
-    Ok(())
+    assert!(rt; group.has(&made(&rt, text(alloc, b"shop")), &none, &none));
+    assert!(rt; !group.has(&made(&rt, text(alloc, b"till")), &none, &none));
+    assert!(rt; made(&rt, copies(&group)));
 }
 
 #[test]
-fn members_by_labels(rt: HostRuntime) -> Result<(), Fail> {
+fn members_by_labels(rt: HostRuntime) {
     let alloc = rt.alloc();
-    let group = in_teams(&rt, alloc)?;
-    let name = text(alloc, b"shop")?;
-    let team = label(alloc, b"k8s.io/team", b"a")?;
-    let job = label(alloc, b"app", b"job")?;
+    let group = made(&rt, in_teams(&rt, alloc));
+    let name = made(&rt, text(alloc, b"shop"));
+    let team = made(&rt, label(alloc, b"k8s.io/team", b"a"));
+    let job = made(&rt, label(alloc, b"app", b"job"));
     assert!(rt; group.has(&name, &team, &job));
     assert!(rt; !group.has(&name, &job, &job));
     assert!(rt; !group.has(&name, &team, &team));
-    assert!(rt; copies(&group)?);
-    assert!(rt; copies(&team)?);
-    Ok(())
+    assert!(rt; made(&rt, copies(&group)) && made(&rt, copies(&team)));
 }
 
 #[test]

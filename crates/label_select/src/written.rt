@@ -41,7 +41,12 @@ impl Written for Need {
     }
 }
 
-fn write_values(out: &mut Vec<u8>, key: &Text, words: &[u8], values: &[Text]) -> Result<(), NoMemory>
+fn write_values(
+    out: &mut Vec<u8>,
+    key: &Text,
+    words: &[u8],
+    values: &[Text],
+) -> Result<(), NoMemory>
     ensures { OnOk result (out.new.items ≡ out.old.items ++ (key.now ++ (words.now ++ (listed values.now ++ codes ")")))) }
 {
     key.write(out)?;
@@ -103,5 +108,4 @@ pub fn write_group(out: &mut Text, g: &GroupKey) -> Result<(), NoMemory>
 /// Different groups have different texts.
 pub fn group_texts_differ()
     ensures { (a b : Group) → IsGroup a → IsGroup b → group_text a ≡ group_text b → a ≡ b }
-{
-}
+{}

@@ -16,6 +16,13 @@ invariant_of-result c =
     rw (c.of.ensures, c.in_ok-sort_once.ensures, is)
     (canonical-is c.args.needs (subst (AllByRecursion IsNeed) is (all-sorted_set need_order IsNeed c.loop-need.sorted.items c.loop-need.invariant.forms)))
 
+pub returns-clause-form : goal.returns-clause-form
+returns-clause-form c =
+    let none : length c.loop-need.needs ≡ 0 = omega (arith, (rw c.in_default.is at c.pop.ensures.cases).0, ap length c.vec_mut.ensures.value) in
+    let is = canonical-taken c.args.needs c.loop-need.needs c.loop-need.sorted.items c.loop-need.invariant.taken none in
+    rw (c.of.ensures, c.in_ok-sort_once.ensures, is)
+    (canonical-is c.args.needs (subst (AllByRecursion IsNeed) is (all-sorted_set need_order IsNeed c.loop-need.sorted.items c.loop-need.invariant.forms)))
+
 pub returns-clause-same : goal.returns-clause-same
 returns-clause-same c = λ labels.
     let none : length c.loop-need.needs ≡ 0 = omega (arith, (rw c.in_default.is at c.pop.ensures.cases).0, ap length c.vec_mut.ensures.value) in

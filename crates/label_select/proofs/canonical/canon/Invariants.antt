@@ -8,7 +8,7 @@ use Rattle.label_select.proofs.canonical.canon.Given as goal
 abbrev pub invariant-loop-need : goal.invariant-loop-need
 invariant-loop-need l = record {
   taken : l.sorted.items ++ reverse (map with_sorted_values l.needs) ≡ reverse (map with_sorted_values l.initial.needs);
-  forms : AllByRecursion IsNeed l.sorted.items
+  forms : AllByRecursion IsNeed l.sorted.items;
 }
 
 abbrev pub decreases-loop-need : goal.decreases-loop-need
