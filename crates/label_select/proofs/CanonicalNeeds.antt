@@ -4,7 +4,6 @@ use Rattle.std.specs.List.{AllByRecursion, list_any, list_all}
 use Rattle.std.specs.declared.cmp.Ordering.{Ordering}
 use Rattle.std.specs.declared.cmp.Ordering.TheVariants.{Less, Equal, Greater}
 use Rattle.std.specs.Ordering.{ordering_then, nat_cmp}
-use Rattle.std.specs.Cmp.Lexicographic.{slice_cmp}
 use Rattle.std.specs.FinMap.{IsAntisymmetric, nat_cmp-IsAntisymmetric, slice_cmp-IsAntisymmetric}
 use Rattle.std.proofs.lemmas.Cmp.{nat_list_cmp_total}
 use Rattle.std.proofs.lemmas.Bool.Decides.{nat_tests}
@@ -16,7 +15,7 @@ use Rattle.label_select.specs.declared.selector.Op.{Op}
 use Rattle.label_select.specs.declared.selector.Op.TheVariants.{OneOf, NoneOf, Present, Missing}
 use Rattle.label_select.specs.Forms.{is_label_value}
 use Rattle.label_select.specs.Selection.{Requirement, IsNeed, value_at, has_one_of, meets_op, meets}
-use Rattle.label_select.specs.Canonical.{op_place, text_order, need_order, need_order_total, sorted_set, with_sorted_values, canonical, IsCanonical}
+use Rattle.label_select.specs.Canonical.{op_place, text_order, need_order, need_order_total, sorted_set, with_sorted_values, canonical, IsSelection}
 use Rattle.label_select.proofs.SortedSets.{list_any-sorted_set, list_all-sorted_set, ascends-sorted_set, all-sorted_set, sorted_set-permutation}
 
 pub text_order-exact : IsAntisymmetric text_order
@@ -90,8 +89,9 @@ values_ascend : (needs : List Requirement) → AllByRecursion (λ n. Ascends (λ
 values_ascend [] = tt
 values_ascend (n ∷ ns) = (ascends-sorted_set nat_list_cmp_total n.values, values_ascend ns)
 
-pub canonical-is : (needs : List Requirement) → IsCanonical (canonical needs)
-canonical-is needs = record {
+pub canonical-is : (needs : List Requirement) → AllByRecursion IsNeed (canonical needs) → IsSelection (record { needs = canonical needs })
+canonical-is needs forms = record {
+  need_forms = forms;
   needs_ascend = ascends-sorted_set need_order_total (map with_sorted_values needs);
   values_ascend = all-sorted_set need_order (λ n. Ascends (λ v. v) text_order n.values) (map with_sorted_values needs) (values_ascend needs);
 }

@@ -1,3 +1,7 @@
 pub mod CanonicalNeeds
+pub mod FormBytes
+pub mod GroupTexts
+pub mod Listings
+pub mod NameBytes
 pub mod SetLabels
 pub mod SortedSets

@@ -10,7 +10,7 @@ use Rattle.std.proofs.lemmas.Cmp.{on_total, then_total, lists_total, nat_cmp_tot
 use Rattle.cl_types.specs.Ascending.{Ascends, put}
 use Rattle.label_select.specs.declared.selector.Op.{Op}
 use Rattle.label_select.specs.declared.selector.Op.TheVariants.{OneOf, NoneOf, Present, Missing}
-use Rattle.label_select.specs.Selection.{Requirement}
+use Rattle.label_select.specs.Selection.{Requirement, Selection, IsNeed}
 
 -- In, NotIn, Exists, DoesNotExist
 abbrev pub op_place : Op → ℕ
@@ -47,7 +47,8 @@ with_sorted_values need = record { key = need.key; op = need.op; values = sorted
 abbrev pub canonical : List Requirement → List Requirement
 canonical needs = sorted_set need_order (map with_sorted_values needs)
 
--- the needs ascend, and so do the values of each
-pub record IsCanonical (needs : List Requirement) : Type 0 where
-  pub needs_ascend : Ascends (λ n. n) need_order needs
-  pub values_ascend : AllByRecursion (λ n. Ascends (λ v. v) text_order n.values) needs
+-- what a selector keeps: the forms of its needs, the needs ascend, and so do the values of each
+pub record IsSelection (s : Selection) : Type 0 where
+  pub need_forms : AllByRecursion IsNeed s.needs
+  pub needs_ascend : Ascends (λ n. n) need_order s.needs
+  pub values_ascend : AllByRecursion (λ n. Ascends (λ v. v) text_order n.values) s.needs

@@ -6,6 +6,7 @@ use Rattle.label_select.specs.declared.group.Scope.{Scope}
 use Rattle.label_select.specs.declared.group.Scope.TheVariants.{Namespace, Namespaces}
 use Rattle.label_select.specs.Forms.{is_namespace_name}
 use Rattle.label_select.specs.Selection.{Selection, selects}
+use Rattle.label_select.specs.Canonical.{IsSelection}
 
 -- a group's key as plain data
 pub record Group : Type 0 where
@@ -16,6 +17,16 @@ pub record Group : Type 0 where
 abbrev pub IsScope : Scope → Type 0
 IsScope (Namespace name) = IsTrue (is_namespace_name name)
 IsScope (Namespaces selector) = Unit {0}
+
+-- the same, and what the selector of a scope keeps
+abbrev pub IsWholeScope : Scope → Type 0
+IsWholeScope (Namespace name) = IsTrue (is_namespace_name name)
+IsWholeScope (Namespaces selector) = IsSelection selector
+
+-- what a group keeps, with all its parts
+pub record IsGroup (g : Group) : Type 0 where
+  pub scope_form : IsWholeScope g.scope
+  pub pods_form : IsSelection g.pods
 
 -- whether a namespace with these labels is in the scope
 abbrev pub in_scope : Scope → List ℕ → List Label → Bool

@@ -2,3 +2,4 @@ pub mod Canonical
 pub mod Forms
 pub mod Group
 pub mod Selection
+pub mod Written

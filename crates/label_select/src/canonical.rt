@@ -2,8 +2,8 @@ ghost use Rattle.std.specs.Prelude.{◌≡◌, List as Items, IfOk, OnOk};
 ghost use Rattle.std.specs.List.{list_all};
 ghost use Rattle.std.specs.declared.cmp.Ordering.TheVariants.{Equal};
 ghost use Rattle.label_select.specs.declared.labels.Label.{Label};
-ghost use Rattle.label_select.specs.Selection.{meets, selects};
-ghost use Rattle.label_select.specs.Canonical.{sorted_set, with_sorted_values, canonical};
+ghost use Rattle.label_select.specs.Selection.{IsNeed, meets, selects};
+ghost use Rattle.label_select.specs.Canonical.{IsSelection, sorted_set, with_sorted_values, canonical};
 
 use crate::selector::{Need, Selector};
 use cl_types::{List, NoMemory};
@@ -13,6 +13,7 @@ use std::alloc::Global;
 pub fn canon(alloc: Global, mut needs: List<Need>) -> Result<Selector, NoMemory>
     ensures same { IfOk result (λ s. (labels : Items Label) → selects s labels ≡ list_all (meets labels) needs) }
     ensures sorted { IfOk result (λ s. s.needs ≡ canonical needs) }
+    ensures form { IfOk result IsSelection }
 {
     let mut sorted = Vec::new(alloc);
     while let Some(need) = needs.vec_mut().pop() {
@@ -25,7 +26,8 @@ pub fn canon(alloc: Global, mut needs: List<Need>) -> Result<Selector, NoMemory>
 }
 
 fn sort_values(need: Need) -> Result<Need, NoMemory>
-    ensures { IfOk result (λ sorted. sorted ≡ with_sorted_values need) }
+    ensures sorted { IfOk result (λ sorted. sorted ≡ with_sorted_values need) }
+    ensures form { IfOk result IsNeed }
 {
     let Need {
         key,

@@ -1,8 +1,10 @@
 //! The forms of names and labels.
-ghost use Rattle.std.specs.Prelude.{◌≡◌, ◌==◌};
+ghost use Rattle.std.specs.Prelude.{◌≡◌, ◌≢◌, ◌==◌, ℕ, true, All, List, []};
 ghost use Rattle.std.specs.List.{list_all, slice_split, position};
 ghost use Rattle.std.specs.Char.{is_ascii_alphanumeric};
 ghost use Rattle.label_select.specs.Forms.{is_small, is_part_byte, is_label_byte, ends_pass, is_part, is_namespace_name, is_object_name, is_name_part, is_label_key, is_label_value};
+
+use cl_types::Text;
 
 /// Whether a namespace can have this name: 1 to 63 of `a` to `z`, `0` to `9` and `-`, with a letter or
 /// digit at both ends.
@@ -52,6 +54,13 @@ pub fn is_label_value(text: &[u8]) -> bool
     ensures { result ≡ is_label_value text.now }
 {
     text.is_empty() || is_name_part(text)
+}
+
+/// Whether labels can have all these values.
+pub fn are_label_values(texts: &[Text]) -> bool
+    ensures { result ≡ list_all is_label_value texts.now }
+{
+    texts.iter().all(|text| is_label_value(text.as_slice()))
 }
 
 #[tactic(auto, unfolding(crate::specs::Forms::is_part))]
@@ -114,4 +123,11 @@ fn is_label_byte(b: u8) -> bool
     ensures { result ≡ is_label_byte b }
 {
     b.is_ascii_alphanumeric() || b == b'-' || b == b'_' || b == b'.'
+}
+
+/// No name has a `/`, and a namespace's name isn't empty.
+pub fn names_have_no_slash()
+    ensures namespaces { (text : List ℕ) → is_namespace_name text ≡ true → All (λ b. b ≢ 47) text × (text ≢ []) }
+    ensures objects { (text : List ℕ) → is_object_name text ≡ true → All (λ b. b ≢ 47) text }
+{
 }

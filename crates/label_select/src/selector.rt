@@ -164,13 +164,13 @@ pub struct Selector {
 
 impl Model for Selector {
     ghost use Rattle.label_select.specs.Selection.{Selection};
-    ghost use Rattle.label_select.specs.Canonical.{IsCanonical};
+    ghost use Rattle.label_select.specs.Canonical.{IsSelection};
 
     ghost Value = { Selection };
 
     ghost view = { λ s. record { needs = s.needs } };
 
-    ghost invariant = { λ s. IsCanonical s.needs };
+    ghost invariant = { λ s. IsSelection (record { needs = s.needs }) };
 }
 
 impl Selector {

@@ -7,3 +7,7 @@ sort_once-requires c = text_order-exact
 pub invariant_of-result : goal.invariant_of-result
 invariant_of-result c =
     rw (c.in_ok-sort_once.ensures, c.vec_mut.ensures.value) (sorted_values-is _ c.need.invariant)
+
+pub returns-clause-form : goal.returns-clause-form
+returns-clause-form c =
+    rw (c.in_ok-sort_once.ensures, c.vec_mut.ensures.value) (sorted_values-is _ c.need.invariant)

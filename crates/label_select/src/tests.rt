@@ -1,0 +1,201 @@
+use super::*;
+use cl_types::{Copies, List, NoMemory, Same, Text};
+use std::alloc::Global;
+use std::process::Abort;
+use std::test::Fail;
+
+// What was made, where there was memory for it.
+fn made<T>(rt: &impl Abort, made: Result<T, NoMemory>) -> T {
+    made.expect(rt, "memory")
+}
+
+fn text(alloc: Global, bytes: &[u8]) -> Result<Text, NoMemory> {
+    Ok(Text::of(Vec::from_slice(alloc, bytes)?))
+}
+
+fn label(alloc: Global, key: &[u8], value: &[u8]) -> Result<Labels, NoMemory> {
+    let mut labels = Labels::new(alloc);
+    labels.put(text(alloc, key)?, text(alloc, value)?)?;
+    Ok(labels)
+}
+
+fn texts(alloc: Global, words: &[&[u8]]) -> Result<List<Text>, NoMemory> {
+    let mut texts = Vec::new(alloc);
+    for word in words {
+        texts.push(text(alloc, word)?)?;
+    }
+    Ok(List::of(texts))
+}
+
+fn need(rt: &impl Abort, key: Text, op: Op, values: List<Text>) -> Need {
+    assert!(rt; is_label_key(key.as_slice()));
+    assert!(rt; are_label_values(values.as_slice()));
+    assert!(rt; op.takes_values() != values.as_slice().is_empty());
+    Need { key, op, values }
+}
+
+fn selector(
+    rt: &impl Abort,
+    alloc: Global,
+    key: &[u8],
+    op: Op,
+    words: &[&[u8]],
+) -> Result<Selector, NoMemory> {
+    let need = need(rt, text(alloc, key)?, op, texts(alloc, words)?);
+    let mut needs = List::new(alloc);
+    needs.vec_mut().push(need)?;
+    canon(alloc, needs)
+}
+
+// What the operator with these values at `app` selects: `app=web`, `app=job` and no labels.
+fn selects(rt: &impl Abort, alloc: Global, op: Op, words: &[&[u8]]) -> Result<[bool; 3], NoMemory> {
+    let selector = selector(rt, alloc, b"app", op, words)?;
+    let web = label(alloc, b"app", b"web")?;
+    let job = label(alloc, b"app", b"job")?;
+    let none = Labels::new(alloc);
+    Ok([
+        selector.selects(&web),
+        selector.selects(&job),
+        selector.selects(&none),
+    ])
+}
+
+#[test]
+fn operators(rt: HostRuntime) -> Result<(), Fail> {
+    let alloc = rt.alloc();
+    let values: &[&[u8]] = &[b"db", b"web", b"db"];
+    assert!(rt; selects(&rt, alloc, Op::OneOf, values)? == [true, false, false]);
+    assert!(rt; selects(&rt, alloc, Op::NoneOf, values)? == [false, true, true]);
+    assert!(rt; selects(&rt, alloc, Op::Present, &[])? == [true, true, false]);
+    assert!(rt; selects(&rt, alloc, Op::Missing, &[])? == [false, false, true]);
+    Ok(())
+}
+
+fn copies<T: Copies + Same + Drop>(value: &T) -> Result<bool, NoMemory> {
+    Ok(value.copy()?.same(value))
+}
+
+fn any_app(rt: &impl Abort, alloc: Global) -> Result<Need, NoMemory> {
+    Ok(need(rt, text(alloc, b"app")?, Op::Present, List::new(alloc)))
+}
+
+fn no_env(rt: &impl Abort, alloc: Global) -> Result<Need, NoMemory> {
+    Ok(need(rt, text(alloc, b"env")?, Op::Missing, List::new(alloc)))
+}
+
+fn both(alloc: Global, first: Need, second: Need) -> Result<Selector, NoMemory> {
+    let mut needs = List::new(alloc);
+    needs.vec_mut().push(first)?;
+    needs.vec_mut().push(second)?;
+    canon(alloc, needs)
+}
+
+#[test]
+fn order_of_needs(rt: HostRuntime) {
+    let alloc = rt.alloc();
+    let app = made(&rt, any_app(&rt, alloc));
+    let env = made(&rt, no_env(&rt, alloc));
+    let there = made(
+        &rt,
+        both(alloc, made(&rt, app.copy()), made(&rt, env.copy())),
+    );
+    let back = made(&rt, both(alloc, env, app));
+    assert!(rt; there.same(&back));
+    assert!(rt; made(&rt, copies(&there)));
+}
+
+fn in_shop(rt: &impl Abort, alloc: Global) -> Result<GroupKey, NoMemory> {
+    let name = text(alloc, b"shop")?;
+    assert!(rt; is_namespace_name(name.as_slice()));
+    Ok(GroupKey {
+        scope: Scope::Namespace(name),
+        pods: selector(rt, alloc, b"app", Op::NoneOf, &[b"web"])?,
+    })
+}
+
+fn in_teams(rt: &impl Abort, alloc: Global) -> Result<GroupKey, NoMemory> {
+    let pods = both(alloc, no_env(rt, alloc)?, any_app(rt, alloc)?)?;
+    let teams = selector(rt, alloc, b"k8s.io/team", Op::OneOf, &[b"b", b"a"])?;
+    Ok(GroupKey {
+        scope: Scope::Namespaces(teams),
+        pods,
+    })
+}
+
+#[test]
+fn group_texts(rt: HostRuntime) {
+    let alloc = rt.alloc();
+    let mut out = made(&rt, text(alloc, b"> "));
+    made(&rt, write_group(&mut out, &made(&rt, in_teams(&rt, alloc))));
+    made(&rt, write_group(&mut out, &made(&rt, in_shop(&rt, alloc))));
+    let want = b"> [k8s.io/team in (a,b)]/[app,!env]shop/[app notin (web)]";
+    assert!(rt; out.as_slice() == want.as_slice());
+}
+
+#[test]
+fn members_by_name(rt: HostRuntime) {
+    let alloc = rt.alloc();
+    let group = made(&rt, in_shop(&rt, alloc));
+    let none = Labels::new(alloc);
+    assert!(rt; group.has(&made(&rt, text(alloc, b"shop")), &none, &none));
+    assert!(rt; !group.has(&made(&rt, text(alloc, b"till")), &none, &none));
+    assert!(rt; made(&rt, copies(&group)));
+}
+
+#[test]
+fn members_by_labels(rt: HostRuntime) {
+    let alloc = rt.alloc();
+    let group = made(&rt, in_teams(&rt, alloc));
+    let name = made(&rt, text(alloc, b"shop"));
+    let team = made(&rt, label(alloc, b"k8s.io/team", b"a"));
+    let job = made(&rt, label(alloc, b"app", b"job"));
+    assert!(rt; group.has(&name, &team, &job));
+    assert!(rt; !group.has(&name, &job, &job));
+    assert!(rt; !group.has(&name, &team, &team));
+    assert!(rt; made(&rt, copies(&group)) && made(&rt, copies(&team)));
+}
+
+#[test]
+fn names(rt: HostRuntime) {
+    for name in b"a kube-system 0-9".split(|b| *b == b' ') {
+        assert!(rt; is_namespace_name(name), "{name:?}");
+        assert!(rt; is_object_name(name), "{name:?}");
+    }
+    for name in b"-a a- A a_b a/b ".split(|b| *b == b' ') {
+        assert!(rt; !is_namespace_name(name), "{name:?}");
+        assert!(rt; !is_object_name(name), "{name:?}");
+    }
+    for name in b"a.b 1.2.3".split(|b| *b == b' ') {
+        assert!(rt; !is_namespace_name(name), "{name:?}");
+        assert!(rt; is_object_name(name), "{name:?}");
+    }
+    for name in b".a a. a..b a.-b a-.b".split(|b| *b == b' ') {
+        assert!(rt; !is_object_name(name), "{name:?}");
+    }
+}
+
+#[test]
+fn label_forms(rt: HostRuntime) {
+    for name in b"a Web_1 a..b a.-b 0".split(|b| *b == b' ') {
+        assert!(rt; is_label_key(name) && is_label_value(name), "{name:?}");
+    }
+    for key in b"a/b k8s.io/Team".split(|b| *b == b' ') {
+        assert!(rt; is_label_key(key) && !is_label_value(key), "{key:?}");
+    }
+    for key in b"/a a/ A/b a/b/c a,b a( ![ -a a_".split(|b| *b == b' ') {
+        assert!(rt; !is_label_key(key) && !is_label_value(key), "{key:?}");
+    }
+    assert!(rt; is_label_value(b"") && !is_label_key(b""));
+}
+
+#[test]
+fn lengths(rt: HostRuntime) -> Result<(), Fail> {
+    let text = Vec::from_elem(rt.alloc(), b'a', 254)?;
+    let text = text.as_slice();
+    assert!(rt; text.len() == 254);
+    assert!(rt; is_namespace_name(&text[..63]) && !is_namespace_name(&text[..64]));
+    assert!(rt; is_object_name(&text[..253]) && !is_object_name(text));
+    assert!(rt; is_label_key(&text[..63]) && !is_label_key(&text[..64]));
+    assert!(rt; is_label_value(&text[..63]) && !is_label_value(&text[..64]));
+    Ok(())
+}
