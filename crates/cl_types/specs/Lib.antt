@@ -1,4 +1,5 @@
 pub mod Addr
+pub mod AddrEq
 pub mod Judgement
 pub mod PolicyName
 pub mod Prefix
