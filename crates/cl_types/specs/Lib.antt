@@ -1,5 +1,6 @@
 pub mod Addr
 pub mod AddrEq
+pub mod Blocks
 pub mod Judgement
 pub mod PolicyName
 pub mod Prefix

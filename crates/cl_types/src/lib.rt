@@ -2,6 +2,7 @@
 #![tactic(auto)]
 
 mod addr;
+mod blocks;
 mod copies;
 mod keys;
 mod laws;
