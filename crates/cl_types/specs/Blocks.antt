@@ -7,7 +7,7 @@ use Rattle.cl_types.specs.declared.blocks.Standing.{Standing}
 use Rattle.cl_types.specs.declared.blocks.Standing.TheVariants.{Inside, Outside, Mixed}
 use Rattle.cl_types.specs.declared.traffic.Masked.{Masked}
 use Rattle.cl_types.specs.Addr.{width_of, number_of, with_number}
-use Rattle.cl_types.specs.Prefix.{Block, Holds, cleared}
+use Rattle.cl_types.specs.Prefix.{Block, Holds, cleared, free_bits}
 
 -- ---- ports (ovs-fields(7): a port and a mask)
 
@@ -97,3 +97,26 @@ pub record AppendsSpansOf (P : ℕ → Type 0) (whole : Span) (old new : List Sp
   pub spans : List Span
   pub appended : new ≡ old ++ spans
   pub are : AreSpansOf P whole spans
+
+-- ---- spans as blocks of ports and of addresses
+
+abbrev pub mask_of : Span → Masked
+mask_of s = record { value = s.index * 2 ^ s.height; mask = 2 ^ 16 - 2 ^ s.height }
+
+-- a span of ports
+pub record IsPortSpan (s : Span) : Type 0 where
+  pub low : s.height ≤ 16
+  pub fits : s.index * 2 ^ s.height < 2 ^ 16
+
+-- the numbers of a block's addresses
+abbrev pub span_of : Block → Span
+span_of b = record { height = free_bits b; index = number_of b.base / 2 ^ free_bits b }
+
+-- the block with these numbers in the address's family
+abbrev pub block_at : Addr → Span → Block
+block_at a s = record { base = with_number a (s.index * 2 ^ s.height); len = width_of a - s.height }
+
+-- a span of numbers of so many bits
+pub record FitsWidth (width : ℕ) (s : Span) : Type 0 where
+  pub low : s.height ≤ width
+  pub fits : s.index < 2 ^ (width - s.height)

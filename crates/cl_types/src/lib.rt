@@ -16,6 +16,7 @@ mod traffic;
 mod writing;
 
 pub use addr::Addr;
+pub use blocks::{blocks_of_range, blocks_without};
 pub use copies::Copies;
 pub use keys::{Dir, PodKey, PolicyKey, PolicyKind, RuleKey, rule_cmp};
 pub use laws::{orders_are_exact, texts_have_one_reading, texts_tell_names_apart, written_is_read};
