@@ -1,4 +1,4 @@
-ghost use Rattle.std.specs.Prelude.{◌≡◌, ◌↔◌, IsTrue, IfOk, refl};
+ghost use Rattle.std.specs.Prelude.{◌≡◌, ◌^◌, ◌<◌, ◌↔◌, IsTrue, IfOk, refl};
 ghost use Rattle.std.specs.Ordering.{as_partial_cmp};
 ghost use Rattle.std.specs.Cmp.{partial_order_from_agreeing_total};
 
@@ -28,7 +28,8 @@ impl Addr {
     }
 
     pub(crate) fn number(self) -> u128
-        ensures { result ≡ number_of self }
+        ensures value { result ≡ number_of self }
+        ensures small { result < 2 ^ width_of self }
     {
         match self {
             Addr::V4(n) => u128::from(n),

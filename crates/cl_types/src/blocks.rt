@@ -182,19 +182,34 @@ fn beside(span: Span, base: Addr, except: &Prefix) -> Standing
     if except.base.width() != base.width() {
         return Standing::Inside;
     }
-    let free = base.width() - except.len;
-    let index = above(except.base.number(), free);
-    if span.height <= free {
-        if above(span.index, free - span.height) == index {
+    let taken = whole_of(except);
+    if span.height <= taken.height {
+        if above(span.index, taken.height - span.height) == taken.index {
             Standing::Outside
         } else {
             Standing::Inside
         }
-    } else if above(index, span.height - free) == span.index {
+    } else if above(taken.index, span.height - taken.height) == span.index {
         Standing::Mixed
     } else {
         Standing::Inside
     }
+}
+
+// What the excepts leave of the span in the family of `base`.
+fn left_of(span: Span, base: Addr, excepts: &[Prefix]) -> Standing
+    requires low { span.height ≤ 128 }
+    ensures { StandsAs (λ n. All (λ e. ¬ Holds e (with_number base n)) excepts.now) span result }
+{
+    let mut standing = Standing::Inside;
+    for except in excepts {
+        match beside(span, base, except) {
+            Standing::Outside => return Standing::Outside,
+            Standing::Mixed => standing = Standing::Mixed,
+            Standing::Inside => {}
+        }
+    }
+    standing
 }
 
 // The addresses of a block that are in no except.
@@ -213,15 +228,7 @@ impl<'a> Region for Remaining<'a> {
     ghost whole = { λ r. span_of r.block };
 
     fn standing(&self, span: Span) -> Standing {
-        let mut standing = Standing::Inside;
-        for except in self.excepts {
-            match beside(span, self.block.base, except) {
-                Standing::Outside => return Standing::Outside,
-                Standing::Mixed => standing = Standing::Mixed,
-                Standing::Inside => {}
-            }
-        }
-        standing
+        left_of(span, self.block.base, self.excepts)
     }
 }
 
