@@ -1,10 +1,10 @@
 -- Where a span begins and ends.
 use Rattle.std.proofs.Common.{◌≡◌, ℕ, zero, suc, ◌+◌, ◌-◌, ◌*◌, ◌/◌, ◌%◌, ◌^◌, ◌<◌, ◌≤◌, refl, sym, ap, ◌∙◌, subst, ⊎_elim, arith}
-use Rattle.std.proofs.Math.Nat.{div-eq_of_lt-le, mod-eq_of_lt, mul-mod_left}
-use Rattle.std.proofs.lemmas.Nat.{pow-add, pow_pos, mul-le, shr_split, shr-shr, mod_below, one_shl, shl-shr}
+use Rattle.std.proofs.Math.Nat.{div-eq_of_lt-le, mod-eq_of_lt, pow-le-pow_right}
+use Rattle.std.proofs.lemmas.Nat.{pow-add, pow_pos, mul-le, shr_split, shr-shr, mod_below, shl-shr, shr_below}
 use Rattle.std.proofs.lemmas.Bool.{cases_lt}
 use Rattle.cl_types.specs.declared.blocks.Span.{Span}
-use Rattle.cl_types.specs.Blocks.{Within, Overshoots}
+use Rattle.cl_types.specs.Blocks.{Within, wider, Overshoots}
 
 -- an index that fits the width ends below it
 pub ends_within : (w h k : ℕ) → h ≤ w → k < 2 ^ (w - h) → (k + 1) * 2 ^ h ≤ 2 ^ w
@@ -52,3 +52,26 @@ pub shr_chain : (n a b : ℕ) → a ≤ b → n / 2 ^ b ≡ n / 2 ^ a / 2 ^ (b -
 shr_chain n a b h =
     let whole : a + (b - a) ≡ b = omega arith in
     ap (λ m. n / 2 ^ m) (sym whole) ∙ sym (shr-shr n a (b - a))
+
+-- an index that fits a width fits 128 bits
+pub fits_wider : (w h k : ℕ) → w ≤ 128 → k < 2 ^ (w - h) → k < 2 ^ (128 - h)
+fits_wider w h k low fits = omega (arith, pow-le-pow_right {n = 2} (omega arith) {i = w - h} {j = 128 - h} (omega arith))
+
+pub index_below : (w h k : ℕ) → h ≤ w → k * 2 ^ h < 2 ^ w → k < 2 ^ (w - h)
+index_below w h k low below =
+    let whole : w ≡ w - h + h = omega arith in
+    omega (arith, shl-shr k h, shr_below (k * 2 ^ h) (w - h) h (subst (λ m. k * 2 ^ h < 2 ^ m) whole below))
+
+pub half_below : (w h k : ℕ) → h < w → k < 2 ^ (w - h) → k / 2 < 2 ^ (w - (h + 1))
+half_below w h k low below =
+    let whole : w - h ≡ w - (h + 1) + 1 = omega arith in
+    shr_below k (w - (h + 1)) 1 (subst (λ m. k < 2 ^ m) whole below)
+
+-- the numbers of the wider span are below the width
+pub wider_below : (w : ℕ) (s : Span) (n : ℕ) → s.height < w → s.index < 2 ^ (w - s.height) → Within (wider s) n → n < 2 ^ w
+wider_below w s n low fits v =
+    omega (arith, within_high (wider s) n v, ends_within w (s.height + 1) (s.index / 2) (omega arith) (half_below w s.height s.index low fits))
+
+-- the quotient of the least number by the next power
+pub least_wider : (s : Span) → s.index * 2 ^ s.height / 2 ^ (s.height + 1) ≡ s.index / 2
+least_wider s = sym (shr-shr (s.index * 2 ^ s.height) s.height 1) ∙ ap (λ m. m / 2) (shl-shr s.index s.height)

@@ -125,3 +125,7 @@ append_halves P s h old mid new e low high = record {
   appended = high.appended ∙ ap (λ xs. xs ++ high.spans) low.appended ∙ append_assoc old low.spans high.spans;
   are = join_spans P s h low.spans high.spans e low.are high.are
 }
+
+-- what was appended to no spans
+pub all_spans : (P : ℕ → Type 0) (s : Span) (old new now : List Span) → old ≡ [] → AppendsSpansOf P s old new → now ≡ new → AreSpansOf P s now
+all_spans P s old new now none a e = subst (AreSpansOf P s) (sym (e ∙ a.appended ∙ ap (λ xs. xs ++ a.spans) none)) a.are
