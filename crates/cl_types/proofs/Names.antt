@@ -87,7 +87,8 @@ pub rule_text_injective : (a b : RuleKey) → IsPolicyName a.policy.kind a.polic
     → a.index < 2 ^ 64 → b.index < 2 ^ 64 → rule_text a ≡ rule_text b → (a.policy ≡ b.policy) × (a.dir ≡ b.dir) × (a.index ≡ b.index)
 rule_text_injective a b p q ra rb e =
     let ends = last_cut 91 (policy_text a.policy ++ 32 ∷ direction_text a.dir) (policy_text b.policy ++ 32 ∷ direction_text b.dir) (decimal a.index ++ 93 ∷ []) (decimal b.index ++ 93 ∷ []) (index_lacks a.index ra) (index_lacks b.index rb) (sym (regrouped a) ∙ e ∙ regrouped b) in
-    let words = last_cut 32 (policy_text a.policy) (policy_text b.policy) (direction_text a.dir) (direction_text b.dir) (direction_lacks a.dir) (direction_lacks b.dir) ends.0 in
-    ( policy_text_injective a.policy b.policy p q words.0
-    , same_direction a.dir b.dir words.1
-    , decimal_injective a.index b.index ra rb (append_cancel_right (decimal a.index) (decimal b.index) (93 ∷ []) ends.1) )
+    let words = last_cut 32 (policy_text a.policy) (policy_text b.policy) (direction_text a.dir) (direction_text b.dir) (direction_lacks a.dir) (direction_lacks b.dir) ends.0 in (
+      policy_text_injective a.policy b.policy p q words.0,
+      same_direction a.dir b.dir words.1,
+      decimal_injective a.index b.index ra rb (append_cancel_right (decimal a.index) (decimal b.index) (93 ∷ []) ends.1),
+    )

@@ -27,8 +27,10 @@ matches_from_within s n low small w = and_high_mask 16 s.height low n small ∙ 
 
 aligned_mask : (s : Span) → IsPortSpan s → IsAligned (mask_of s)
 aligned_mask s p = record {
-  zeros = s.height; few = p.low; mask = refl;
-  value = matches_from_within s (s.index * 2 ^ s.height) p.low p.fits (least_within s)
+  zeros = s.height;
+  few = p.low;
+  mask = refl;
+  value = matches_from_within s (s.index * 2 ^ s.height) p.low p.fits (least_within s);
 }
 
 -- the mask of twice the size has one bit fewer
@@ -62,12 +64,13 @@ module _ (lo hi : ℕ) (spans : List Span) (are : AreSpansOf (λ n. (lo ≤ n) �
       record { low = are.lower k d h; fits = omega (arith, zero) }
 
   pub exact_ports : (port : ℕ) → port < 2 ^ 16 → ((lo ≤ port) × (port ≤ hi)) ↔ Any (λ b. Matches b port) (map mask_of spans)
-  exact_ports port small =
-      ( (λ inside. any_map mask_of spans (λ s. Within s port) (λ b. Matches b port)
-          (λ k d h w. matches_from_within (get_or spans k d) port (are.lower k d h) small w)
-          (are.found port (omega arith) inside))
-      , (λ a. are.within port (any_unmap mask_of spans all_ports (λ s. Within s port) (λ b. Matches b port)
-          (λ k d h m. within_from_matches (get_or spans k d) port (are.lower k d h) small m) a)) )
+  exact_ports port small = (
+    (λ inside. any_map mask_of spans (λ s. Within s port) (λ b. Matches b port)
+        (λ k d h w. matches_from_within (get_or spans k d) port (are.lower k d h) small w)
+        (are.found port (omega arith) inside)),
+    (λ a. are.within port (any_unmap mask_of spans all_ports (λ s. Within s port) (λ b. Matches b port)
+        (λ k d h m. within_from_matches (get_or spans k d) port (are.lower k d h) small m) a)),
+  )
 
   pub aligned_ports : All IsAligned (map mask_of spans)
   aligned_ports = All-map IsAligned mask_of spans (λ k d h. aligned_mask (get_or spans k d) (port_spans k d h))
@@ -78,5 +81,5 @@ module _ (lo hi : ℕ) (spans : List Span) (are : AreSpansOf (λ n. (lo ≤ n) �
   pub ascending_ports : AllPairs PortsPrecede (map mask_of spans)
   ascending_ports = pairs_map mask_of spans all_ports PortsPrecede
       (λ i j d below within m n sm sn a b. are.ascending i j d below within m n
-        (within_from_matches (get_or spans i d) m (are.lower i d (omega arith)) sm a)
-        (within_from_matches (get_or spans j d) n (are.lower j d within) sn b))
+      (within_from_matches (get_or spans i d) m (are.lower i d (omega arith)) sm a)
+      (within_from_matches (get_or spans j d) n (are.lower j d within) sn b))

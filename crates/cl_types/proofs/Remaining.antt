@@ -35,7 +35,7 @@ within_from_holds e a n h = ap (λ m. m / 2 ^ (span_of e).height) (sym (number-w
 pub holds_from_within : (e : Block) (a : Addr) (n : ℕ) → width_of e.base ≡ width_of a → Within (span_of e) n → Holds e (with_number a n)
 holds_from_within e a n same w = record {
   family = width-with_number a n ∙ sym same;
-  bits = ap (λ m. m / 2 ^ (span_of e).height) (number-with_number a n) ∙ w
+  bits = ap (λ m. m / 2 ^ (span_of e).height) (number-with_number a n) ∙ w;
 }
 
 -- where a number of a span lies in higher spans

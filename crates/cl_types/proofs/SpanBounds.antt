@@ -33,12 +33,13 @@ least_within s = shl-shr s.index s.height
 -- a span that meets a range and isn't in it
 pub mixed_ports : (s : Span) (lo hi least greatest : ℕ) → least ≡ s.index * 2 ^ s.height → greatest + 1 ≡ (s.index + 1) * 2 ^ s.height → lo ≤ greatest → least ≤ hi → (lo ≤ least → greatest ≤ hi → ⊥)
     → (0 < s.height) × Overshoots (λ n. (lo ≤ n) × (n ≤ hi)) s
-mixed_ports s lo hi least greatest l g above below apart =
-    ( high s.height refl
-    , ⊎_elim
+mixed_ports s lo hi least greatest l g above below apart = (
+  high s.height refl,
+  ⊎_elim
       (λ before. (least, subst (Within s) (sym l) (least_within s), λ p. omega (arith, p.0)))
       (λ from. (greatest, within_from s greatest (omega (arith, pow_pos s.height)) (omega arith), λ p. apart from p.1))
-      (cases_lt least lo) )
+      (cases_lt least lo),
+)
   where
     high : (h : ℕ) → s.height ≡ h → 0 < s.height
     high zero e =

@@ -27,9 +27,9 @@ pairs_append {X} R xs ys px py cross = λ i j d below within.
     ⊎_elim
     (λ left. rw (get_or_append_left xs ys d i (omega arith), get_or_append_left xs ys d j left) (px i j d below left))
     (λ right. ⊎_elim
-      (λ left. rw (get_or_append_left xs ys d i left, get_or-append_right xs ys (length xs) j d refl right) (cross i (j - length xs) d left (omega arith)))
-      (λ both. rw (get_or-append_right xs ys (length xs) i d refl both, get_or-append_right xs ys (length xs) j d refl right) (py (i - length xs) (j - length xs) d (omega arith) (omega arith)))
-      (cases_lt i (length xs)))
+    (λ left. rw (get_or_append_left xs ys d i left, get_or-append_right xs ys (length xs) j d refl right) (cross i (j - length xs) d left (omega arith)))
+    (λ both. rw (get_or-append_right xs ys (length xs) i d refl both, get_or-append_right xs ys (length xs) j d refl right) (py (i - length xs) (j - length xs) d (omega arith) (omega arith)))
+    (cases_lt i (length xs)))
     (cases_lt j (length xs))
 
 -- ---- halves
@@ -66,17 +66,17 @@ parts_up whole half spans up parts = All-weaker (IsPart half) (IsPart whole) (λ
 pub join_spans : (P : ℕ → Type 0) (s : Span) (h : ℕ) (xs ys : List Span) → s.height ≡ h + 1 → AreSpansOf P (lower_half h s.index) xs → AreSpansOf P (upper_half h s.index) ys → AreSpansOf P s (xs ++ ys)
 join_spans P s h xs ys e low high = record {
   found = λ n w p. ⊎_elim
-    (λ v. any_left (λ t. Within t n) xs ys (low.found n v p))
-    (λ v. any_right (λ t. Within t n) xs ys (high.found n v p))
-    (in_half s h n e w);
+      (λ v. any_left (λ t. Within t n) xs ys (low.found n v p))
+      (λ v. any_right (λ t. Within t n) xs ys (high.found n v p))
+      (in_half s h n e w);
   within = λ n a. ⊎_elim (low.within n) (high.within n) (any_cases (λ t. Within t n) xs ys a);
   parts = All-append (IsPart s) xs ys (parts_up s (lower_half h s.index) xs (lower_part s h e) low.parts) (parts_up s (upper_half h s.index) ys (upper_part s h e) high.parts);
   lower = All-append (λ (t : Span). t.height ≤ s.height) xs ys
-    (All-weaker (λ (t : Span). t.height ≤ h) (λ (t : Span). t.height ≤ s.height) (λ t le. omega arith) xs low.lower)
-    (All-weaker (λ (t : Span). t.height ≤ h) (λ (t : Span). t.height ≤ s.height) (λ t le. omega arith) ys high.lower);
+      (All-weaker (λ (t : Span). t.height ≤ h) (λ (t : Span). t.height ≤ s.height) (λ t le. omega arith) xs low.lower)
+      (All-weaker (λ (t : Span). t.height ≤ h) (λ (t : Span). t.height ≤ s.height) (λ t le. omega arith) ys high.lower);
   maximal = All-append (λ (t : Span). Overshoots P (wider t)) xs ys low.maximal high.maximal;
   ascending = pairs_append SpansPrecede xs ys low.ascending high.ascending
-    (λ i j d il jl m n wm wn. lower_before_upper h s.index m n (low.parts i d il m wm) (high.parts j d jl n wn))
+      (λ i j d il jl m n wm wn. lower_before_upper h s.index m n (low.parts i d il m wm) (high.parts j d jl n wn));
 }
 
 pub no_spans : (P : ℕ → Type 0) (s : Span) → ((n : ℕ) → Within s n → P n → ⊥) → AreSpansOf P s []
@@ -86,7 +86,7 @@ no_spans P s outside = record {
   parts = λ k d h. absurd (omega arith);
   lower = λ k d h. absurd (omega arith);
   maximal = λ k d h. absurd (omega arith);
-  ascending = λ i j d below within. absurd (omega arith)
+  ascending = λ i j d below within. absurd (omega arith);
 }
 
 pub whole_span : (P : ℕ → Type 0) (s : Span) → ((n : ℕ) → Within s n → P n) → Overshoots P (wider s) → AreSpansOf P s (s ∷ [])
@@ -96,7 +96,7 @@ whole_span P s inside larger = record {
   parts = All-cons (IsPart s) s [] (λ n w. w) (All-nil (IsPart s));
   lower = All-cons (λ (t : Span). t.height ≤ s.height) s [] (omega arith) (All-nil (λ (t : Span). t.height ≤ s.height));
   maximal = All-cons (λ (t : Span). Overshoots P (wider t)) s [] larger (All-nil (λ (t : Span). Overshoots P (wider t)));
-  ascending = λ i j d below within. absurd (omega arith)
+  ascending = λ i j d below within. absurd (omega arith);
 }
   where
     only : (k : ℕ) (t : Span) → k < 1 → get_or (s ∷ []) k t ≡ t → (n : ℕ) → Within t n → Within s n
@@ -123,7 +123,7 @@ pub append_halves : (P : ℕ → Type 0) (s : Span) (h : ℕ) (old mid new : Lis
 append_halves P s h old mid new e low high = record {
   spans = low.spans ++ high.spans;
   appended = high.appended ∙ ap (λ xs. xs ++ high.spans) low.appended ∙ append_assoc old low.spans high.spans;
-  are = join_spans P s h low.spans high.spans e low.are high.are
+  are = join_spans P s h low.spans high.spans e low.are high.are;
 }
 
 -- what was appended to no spans

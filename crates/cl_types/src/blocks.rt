@@ -133,10 +133,7 @@ fn masked(span: Span) -> Masked
     ensures { result ≡ mask_of span }
 {
     if span.height == 16 {
-        Masked {
-            value: 0,
-            mask: 0,
-        }
+        Masked { value: 0, mask: 0 }
     } else {
         Masked {
             value: (span.index << span.height) as u16,

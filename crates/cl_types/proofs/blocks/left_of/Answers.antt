@@ -12,11 +12,12 @@ pub loop-except-preserved : goal.loop-except-preserved
 loop-except-preserved c =
     let i = c.loop-except.except-index in
     let es = c.args.excepts.now in
-    elim c.match-beside.branch
-    [ in-Mixed w ↦ subst (λ (st : Standing). StandsAs (λ n. All (λ e. ¬ Holds e (with_number c.args.base n)) (take (i + 1) es)) c.args.span st) (sym w.standing-is)
-      (stands_mixed c.args.span c.args.base es i c.except-item.result (omega arith) c.except-item.is w.in-Mixed.ensures)
-    | in-Inside w ↦ subst (λ (st : Standing). StandsAs (λ n. All (λ e. ¬ Holds e (with_number c.args.base n)) (take (i + 1) es)) c.args.span st) (sym w.standing-is)
-      (stands_more c.args.span c.args.base es i c.except-item.result (omega arith) c.except-item.is c.loop-except.standing c.loop-except.invariant w.in-Inside.ensures) ]
+    elim c.match-beside.branch [
+      | in-Mixed w ↦ subst (λ (st : Standing). StandsAs (λ n. All (λ e. ¬ Holds e (with_number c.args.base n)) (take (i + 1) es)) c.args.span st) (sym w.standing-is)
+          (stands_mixed c.args.span c.args.base es i c.except-item.result (omega arith) c.except-item.is w.in-Mixed.ensures)
+      | in-Inside w ↦ subst (λ (st : Standing). StandsAs (λ n. All (λ e. ¬ Holds e (with_number c.args.base n)) (take (i + 1) es)) c.args.span st) (sym w.standing-is)
+          (stands_more c.args.span c.args.base es i c.except-item.result (omega arith) c.except-item.is c.loop-except.standing c.loop-except.invariant w.in-Inside.ensures)
+    ]
 
 pub returns : goal.returns
 returns c = stands_all c.args.span c.args.base c.args.excepts.now c.loop-except.except-index c.loop-except.standing (omega arith) c.loop-except.invariant
