@@ -1,6 +1,10 @@
 pub mod Addr
 pub mod AddrEq
+pub mod Ascending
+pub mod AscendingLaws
 pub mod Blocks
+pub mod Equality
+pub mod EqualityLaws
 pub mod Judgement
 pub mod PolicyName
 pub mod Prefix

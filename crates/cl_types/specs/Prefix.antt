@@ -1,4 +1,4 @@
-use Rattle.std.specs.Prelude.{◌≡◌, ℕ, ◌≤◌, ◌-◌, ◌*◌, ◌/◌, ◌^◌, ◌%◌}
+use Rattle.std.specs.Prelude.{◌≡◌, ℕ, ◌≤◌, ◌-◌, ◌*◌, ◌/◌, ◌^◌, ◌%◌, ◌==◌, ◌&&◌, Bool}
 use Rattle.cl_types.specs.declared.addr.Addr.{Addr}
 use Rattle.cl_types.specs.declared.addr.Addr.TheVariants.{V4, V6}
 use Rattle.cl_types.specs.Addr.{width_of, number_of, with_number}
@@ -21,6 +21,10 @@ free_bits b = width_of b.base - b.len
 pub record Holds (b : Block) (a : Addr) : Type 0 where
   pub family : width_of a ≡ width_of b.base
   pub bits : number_of a / 2 ^ free_bits b ≡ number_of b.base / 2 ^ free_bits b
+
+-- the same as a test
+abbrev pub holds : Block → Addr → Bool
+holds b a = (width_of a == width_of b.base) && (number_of a / 2 ^ free_bits b == number_of b.base / 2 ^ free_bits b)
 
 -- the block of one address
 abbrev pub block_of : Addr → Block

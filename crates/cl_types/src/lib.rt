@@ -4,6 +4,8 @@
 mod addr;
 mod blocks;
 mod copies;
+mod equality;
+mod keyed;
 mod keys;
 mod laws;
 mod list;
@@ -18,6 +20,7 @@ mod writing;
 pub use addr::Addr;
 pub use blocks::{blocks_of_range, blocks_without};
 pub use copies::Copies;
+pub use keyed::{Keyed, find, put, search};
 pub use keys::{Dir, PodKey, PolicyKey, PolicyKind, RuleKey, rule_cmp};
 pub use laws::{orders_are_exact, texts_have_one_reading, texts_tell_names_apart, written_is_read};
 pub use list::List;

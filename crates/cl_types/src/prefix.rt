@@ -27,11 +27,12 @@ impl Model for Prefix {
 }
 
 impl Prefix {
-    ghost use Rattle.cl_types.specs.Prefix.{Holds, block_of};
+    ghost use Rattle.cl_types.specs.Prefix.{Holds, holds, block_of};
 
     /// Whether `a` is in the block. It takes no memory.
     pub fn holds(&self, a: Addr) -> bool
-        ensures { IsTrue result ↔ Holds self.now a }
+        ensures meaning { IsTrue result ↔ Holds self.now a }
+        ensures test { result ≡ holds self.now a }
     {
         match (self.base, a) {
             (Addr::V4(base), Addr::V4(n)) => {
