@@ -1,3 +1,5 @@
+ghost use Rattle.std.specs.Prelude.{◌≡◌, IfOk};
+
 use crate::addr::Addr;
 use crate::copies::Copies;
 use crate::keys::{Dir, PodKey, PolicyKey, PolicyKind, RuleKey};
@@ -9,7 +11,9 @@ use crate::writing::{write_addr, write_judged, write_pod, write_prefix};
 use std::alloc::Global;
 use std::test::Fail;
 
-fn text(alloc: Global, bytes: &[u8]) -> Result<Text, NoMemory> {
+fn text(alloc: Global, bytes: &[u8]) -> Result<Text, NoMemory>
+    ensures { IfOk result (λ text. text ≡ bytes.now) }
+{
     Ok(Text::of(Vec::from_slice(alloc, bytes)?))
 }
 
