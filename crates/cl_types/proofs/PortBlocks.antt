@@ -1,5 +1,5 @@
 -- Spans of ports as values and masks.
-use Rattle.std.proofs.Common.{◌≡◌, ℕ, ◌+◌, ◌-◌, ◌*◌, ◌/◌, ◌%◌, ◌^◌, ◌<◌, ◌≤◌, List, length, map, get_or, ◌↔◌, bit_and, refl, sym, ap, ◌∙◌, subst, arith}
+use Rattle.std.proofs.Common.{◌≡◌, ℕ, ◌+◌, ◌-◌, ◌*◌, ◌/◌, ◌%◌, ◌^◌, ◌<◌, ◌≤◌, List, map, get_or, ◌↔◌, bit_and, refl, sym, ap, ◌∙◌, arith}
 use Rattle.std.specs.List.{All, Any, AllPairs}
 use Rattle.std.proofs.lemmas.Nat.{shl-shr, pow_pos, pow-add}
 use Rattle.std.proofs.lemmas.Nat.Bits.{and_high_mask}

@@ -1,9 +1,8 @@
 -- The spans of blocks, and what excepts leave.
-use Rattle.std.proofs.Common.{◌≡◌, ◌≢◌, ℕ, zero, suc, ◌+◌, ◌-◌, ◌*◌, ◌/◌, ◌%◌, ◌^◌, ◌<◌, ◌≤◌, List, take, get_or, length, refl, sym, ap, ◌∙◌, subst, ⊎_elim, arith}
+use Rattle.std.proofs.Common.{◌≡◌, ◌≢◌, ℕ, ◌+◌, ◌-◌, ◌*◌, ◌/◌, ◌^◌, ◌<◌, ◌≤◌, List, take, get_or, length, refl, sym, ap, ◌∙◌, subst, arith}
 use Rattle.std.specs.List.{All}
 use Rattle.std.proofs.lemmas.List.Elements.{All-more, All-take}
 use Rattle.std.proofs.lemmas.List.{take-take, get_or-take, length-take-le, take_all}
-use Rattle.std.proofs.lemmas.Bool.{cases_lt}
 use Rattle.std.proofs.lemmas.Nat.{shr_below}
 use Rattle.cl_types.specs.declared.addr.Addr.{Addr}
 use Rattle.cl_types.specs.declared.addr.Addr.TheVariants.{V4, V6}
@@ -12,7 +11,7 @@ use Rattle.cl_types.specs.declared.blocks.Standing.{Standing}
 use Rattle.cl_types.specs.declared.blocks.Standing.TheVariants.{Inside, Outside, Mixed}
 use Rattle.cl_types.specs.Addr.{width_of, number_of, with_number}
 use Rattle.cl_types.specs.Prefix.{Block, Holds, IsBlock}
-use Rattle.cl_types.specs.Blocks.{Within, wider, Overshoots, StandsAs, Remains, span_of}
+use Rattle.cl_types.specs.Blocks.{Within, StandsAs, Remains, span_of}
 use Rattle.cl_types.proofs.SpanBounds.{shr_chain, least_within}
 
 pub number-with_number : (a : Addr) (n : ℕ) → number_of (with_number a n) ≡ n

@@ -1,6 +1,6 @@
 -- Spans of numbers, their halves, and the maximal spans of a set.
 use Rattle.std.proofs.Common.{◌≡◌, ℕ, zero, suc, ◌+◌, ◌-◌, ◌*◌, ◌/◌, ◌%◌, ◌^◌, ◌<◌, ◌≤◌, List, [], ◌∷◌, ◌++◌, length, length-append, get_or, ◌⊎◌, inl, inr, ⊎_elim, refl, sym, ap, ◌∙◌, subst, append_assoc, arith}
-use Rattle.std.specs.List.{All, Any, AllPairs, Contains}
+use Rattle.std.specs.List.{All, Any, AllPairs}
 use Rattle.std.proofs.Math.Nat.{div-mul-le_self, pow-suc, pow-le-pow_right}
 use Rattle.std.proofs.lemmas.Nat.{shr-shr, le-div, pow_pos}
 use Rattle.std.proofs.lemmas.Bool.{cases_lt}

@@ -1,5 +1,5 @@
 -- `==` of addresses and their order agree.
-use Rattle.std.specs.Prelude.{◌≡◌, ℕ, ◌<◌, refl, Bool, true, false, cond, if◌then◌else◌}
+use Rattle.std.specs.Prelude.{◌≡◌, ℕ, ◌<◌, refl, Bool, true, false, cond}
 use Rattle.std.specs.declared.cmp.Ordering.TheVariants.{Less, Equal, Greater}
 use Rattle.std.specs.Ordering.{eq_by_cmp, nat_cmp, is_eq}
 use Rattle.std.proofs.Common.{subst, eqb, ltb}

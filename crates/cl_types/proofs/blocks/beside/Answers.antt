@@ -1,4 +1,4 @@
-use Rattle.std.proofs.Common.{sym, ap, ◌∙◌, arith}
+use Rattle.std.proofs.Common.{sym, ap, ◌∙◌}
 use Rattle.cl_types.specs.Addr.{width_of}
 use Rattle.cl_types.proofs.Remaining.{covered, beside_higher, met, beside_lower}
 use Rattle.cl_types.proofs.blocks.beside.Goals as goal

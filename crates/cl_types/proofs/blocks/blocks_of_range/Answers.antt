@@ -1,4 +1,4 @@
-use Rattle.std.proofs.Common.{◌≡◌, ℕ, ◌<◌, ◌≤◌, ◌^◌, List, map, ◌↔◌, arith}
+use Rattle.std.proofs.Common.{ℕ, ◌<◌, ◌≤◌, ◌^◌, List, map, ◌↔◌, arith}
 use Rattle.std.specs.List.{All, Any, AllPairs}
 use Rattle.cl_types.specs.declared.traffic.Masked.{Masked}
 use Rattle.cl_types.specs.Blocks.{Matches, IsAligned, IsWidest, PortsPrecede, mask_of}

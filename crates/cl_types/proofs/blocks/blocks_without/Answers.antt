@@ -1,4 +1,4 @@
-use Rattle.std.proofs.Common.{◌≡◌, ℕ, ◌<◌, ◌≤◌, ◌^◌, List, map, ◌↔◌, sym, ap, subst, arith}
+use Rattle.std.proofs.Common.{◌≡◌, ◌<◌, List, map, ◌↔◌, sym, ap, subst}
 use Rattle.std.specs.List.{All, Any, AllPairs}
 use Rattle.std.specs.Result.{IfOk}
 use Rattle.cl_types.specs.declared.addr.Addr.{Addr}

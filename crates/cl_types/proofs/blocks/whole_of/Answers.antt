@@ -1,4 +1,4 @@
-use Rattle.std.proofs.Common.{◌<◌, ◌-◌, ◌/◌, ◌^◌, ap, sym, ◌∙◌, subst, arith}
+use Rattle.std.proofs.Common.{◌<◌, ◌-◌, ◌^◌, ap, sym, ◌∙◌, subst, arith}
 use Rattle.cl_types.specs.Addr.{width_of}
 use Rattle.cl_types.proofs.Remaining.{block_len, index_fits}
 use Rattle.cl_types.proofs.blocks.whole_of.Goals as goal

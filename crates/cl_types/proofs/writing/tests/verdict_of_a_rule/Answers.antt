@@ -7,5 +7,5 @@ pub invariant_of-rule : goal.invariant_of-rule
 invariant_of-rule g c = record {
   namespace_form = subst HasNoSlash (sym c.in_ok-text.ensures) (lacks_literal 47 (codes "shop") refl);
   name_form = subst HasNoSlash (sym c.in_ok-text-2.ensures) (lacks_literal 47 (codes "deny") refl);
-  cluster_wide = ((λ e. let clash : codes "shop" ≡ [] = sym c.in_ok-text.ensures ∙ e in cc), (λ e. cc))
+  cluster_wide = ((λ e. let clash : codes "shop" ≡ [] = sym c.in_ok-text.ensures ∙ e in cc), (λ e. cc));
 }
