@@ -1,5 +1,5 @@
 -- Where the two colons of a shortened address stand.
-use Rattle.std.proofs.Common.{◌≡◌, ◌≢◌, ℕ, zero, suc, ◌+◌, ◌-◌, ◌<◌, ◌≤◌, List, [], ◌∷◌, ◌++◌, length, length-append, take, get_or, refl, sym, ap, ◌∙◌, subst, add-one, append_assoc, arith}
+use Rattle.std.proofs.Common.{◌≡◌, ◌≢◌, ℕ, zero, suc, ◌+◌, ◌-◌, ◌<◌, ◌≤◌, List, [], ◌∷◌, ◌++◌, length, take, get_or, refl, sym, ap, ◌∙◌, subst, add-one, append_assoc, arith}
 use Rattle.cl_types.specs.declared.reading.Family.TheVariants.{Colons}
 use Rattle.cl_types.specs.Reading.{IsParts, Lacks, HasNoGap}
 use Rattle.cl_types.proofs.Parts.{part_lacks, part_some, lacks_tail}

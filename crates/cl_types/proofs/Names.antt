@@ -1,10 +1,8 @@
 -- Different names have different texts.
-use Rattle.std.proofs.Common.{◌≡◌, ◌≢◌, ℕ, ◌+◌, ◌-◌, ◌^◌, ◌<◌, ◌≤◌, List, [], ◌∷◌, ◌++◌, length, length-append, reverse, codes, refl, sym, ap, ◌∙◌, subst, append_assoc, arith}
-use Rattle.std.specs.List.{All}
+use Rattle.std.proofs.Common.{◌≡◌, ◌≢◌, ℕ, ◌^◌, ◌<◌, List, [], ◌∷◌, ◌++◌, codes, refl, sym, ◌∙◌, append_assoc, arith}
 use Rattle.std.specs.Fmt.{decimal}
-use Rattle.std.specs.Str.Parse.{AllDigits}
 use Rattle.std.proofs.lemmas.Fmt.{decimal_is_IsNumeral, decimal_injective}
-use Rattle.std.proofs.lemmas.List.{append_cancel_left, append_cancel_right, same_from_push}
+use Rattle.std.proofs.lemmas.List.{append_cancel_right}
 use Rattle.std.proofs.lemmas.List.Elements.{All-append}
 use Rattle.cl_types.specs.declared.keys.PolicyKind.{PolicyKind}
 use Rattle.cl_types.specs.declared.keys.PolicyKind.TheVariants.{Cluster, Antrea, Kube}
@@ -87,7 +85,8 @@ pub rule_text_injective : (a b : RuleKey) → IsPolicyName a.policy.kind a.polic
     → a.index < 2 ^ 64 → b.index < 2 ^ 64 → rule_text a ≡ rule_text b → (a.policy ≡ b.policy) × (a.dir ≡ b.dir) × (a.index ≡ b.index)
 rule_text_injective a b p q ra rb e =
     let ends = last_cut 91 (policy_text a.policy ++ 32 ∷ direction_text a.dir) (policy_text b.policy ++ 32 ∷ direction_text b.dir) (decimal a.index ++ 93 ∷ []) (decimal b.index ++ 93 ∷ []) (index_lacks a.index ra) (index_lacks b.index rb) (sym (regrouped a) ∙ e ∙ regrouped b) in
-    let words = last_cut 32 (policy_text a.policy) (policy_text b.policy) (direction_text a.dir) (direction_text b.dir) (direction_lacks a.dir) (direction_lacks b.dir) ends.0 in
-    ( policy_text_injective a.policy b.policy p q words.0
-    , same_direction a.dir b.dir words.1
-    , decimal_injective a.index b.index ra rb (append_cancel_right (decimal a.index) (decimal b.index) (93 ∷ []) ends.1) )
+    let words = last_cut 32 (policy_text a.policy) (policy_text b.policy) (direction_text a.dir) (direction_text b.dir) (direction_lacks a.dir) (direction_lacks b.dir) ends.0 in (
+      policy_text_injective a.policy b.policy p q words.0,
+      same_direction a.dir b.dir words.1,
+      decimal_injective a.index b.index ra rb (append_cancel_right (decimal a.index) (decimal b.index) (93 ∷ []) ends.1),
+    )

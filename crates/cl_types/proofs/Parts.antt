@@ -1,16 +1,15 @@
 -- Texts of parts with a separator between each two: a text has one reading at most.
-use Rattle.std.proofs.Common.{◌≡◌, ◌≢◌, ℕ, zero, suc, ◌+◌, ◌*◌, ◌^◌, ◌<◌, ◌≤◌, List, [], ◌∷◌, ◌++◌, length, length-append, get_or, Bool, true, false, cond, eqb, refl, sym, ap, ◌∙◌, subst, add-one, arith}
+use Rattle.std.proofs.Common.{◌≡◌, ◌≢◌, ℕ, zero, suc, ◌+◌, ◌*◌, ◌^◌, ◌<◌, ◌≤◌, List, [], ◌∷◌, ◌++◌, length, length-append, Bool, true, false, cond, eqb, refl, sym, ap, ◌∙◌, subst, add-one, arith}
 use Rattle.std.proofs.Math.Nat.{pow-suc, pow-le-pow_left, pow-le-pow_right}
 use Rattle.std.proofs.lemmas.Nat.{mul-add-lt}
 use Rattle.std.proofs.lemmas.List.Elements.{All-append}
 use Rattle.std.proofs.lemmas.Bool.{false≢true}
 use borrow.Author.Tests.{eq-eqb}
-use Rattle.std.specs.List.{All}
-use Rattle.std.specs.Str.Parse.{AllDigits, digits_value}
+use Rattle.std.specs.Str.Parse.{AllDigits}
 use Rattle.std.specs.Char.{digit_value}
 use Rattle.cl_types.specs.declared.reading.Family.{Family}
 use Rattle.cl_types.specs.declared.reading.Family.TheVariants.{Dotted, Colons}
-use Rattle.cl_types.specs.Reading.{separator_of, base_of, IsPart, IsParts, IsOctet, IsGroup, Lacks}
+use Rattle.cl_types.specs.Reading.{separator_of, base_of, IsPart, IsParts, Lacks}
 use Rattle.cl_types.proofs.Numerals.{octet_form, digit_in, small_value}
 
 pub lacks_tail : (s x : ℕ) (xs : List ℕ) → Lacks s (x ∷ xs) → Lacks s xs

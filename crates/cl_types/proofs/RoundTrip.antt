@@ -1,14 +1,14 @@
 -- What is written of an address is read as that address.
-use Rattle.std.proofs.Common.{◌≡◌, ℕ, zero, suc, ◌+◌, ◌-◌, ◌*◌, ◌/◌, ◌%◌, ◌^◌, ◌<◌, ◌≤◌, List, [], ◌∷◌, ◌++◌, length, length-append, length-drop, map, take, drop, replicate, Bool, true, false, cond, eqb, ltb, inl, inr, refl, sym, ap, ◌∙◌, subst, append_assoc, add-one, nat_lt, ◌⊎◌, arith}
+use Rattle.std.proofs.Common.{◌≡◌, ℕ, zero, suc, ◌+◌, ◌-◌, ◌*◌, ◌/◌, ◌%◌, ◌^◌, ◌<◌, ◌≤◌, List, [], ◌∷◌, ◌++◌, length, length-drop, map, take, drop, replicate, Bool, true, false, cond, eqb, ltb, inl, inr, refl, sym, ap, ◌∙◌, subst, add-one, nat_lt, ◌⊎◌, arith}
 use Rattle.std.specs.List.{join_with_byte, AllByRecursion}
 use Rattle.std.specs.Fmt.{decimal, digits}
 use Rattle.std.specs.Int.Digits.{number_from_digits}
 use Rattle.std.proofs.lemmas.Fmt.{digits_is_IsNumeral}
 use Rattle.std.proofs.lemmas.Int.Digits.{number_push}
 use Rattle.std.proofs.lemmas.List.{length-take-le, length_push}
-use Rattle.std.proofs.lemmas.Nat.{div-add-mod', div_below, mod_below}
+use Rattle.std.proofs.lemmas.Nat.{div-add-mod', div_below}
 use Rattle.std.proofs.Math.Nat.{pow-suc, pow-zero}
-use borrow.Author.Tests.{eqb-true, ltb-true, ltb-false}
+use borrow.Author.Tests.{eqb-true, ltb-false}
 use Rattle.cl_types.specs.declared.addr.Addr.{Addr}
 use Rattle.cl_types.specs.declared.addr.Addr.TheVariants.{V4, V6}
 use Rattle.cl_types.specs.declared.reading.Family.{Family}
@@ -30,8 +30,8 @@ dotted_is_read n h = record {
   octets = n / 16777216 % 256 ∷ n / 65536 % 256 ∷ n / 256 % 256 ∷ n % 256 ∷ [];
   four = refl;
   parts = parts_joined Dotted decimal (n / 16777216 % 256 ∷ n / 65536 % 256 ∷ n / 256 % 256 ∷ n % 256 ∷ [])
-    (record { below = omega arith; value = refl }, (record { below = omega arith; value = refl }, (record { below = omega arith; value = refl }, (record { below = omega arith; value = refl }, tt))));
-  value = omega arith
+      (record { below = omega arith; value = refl }, (record { below = omega arith; value = refl }, (record { below = omega arith; value = refl }, (record { below = omega arith; value = refl }, tt))));
+  value = omega arith;
 }
 
 -- below 65536, each
@@ -45,7 +45,7 @@ group_is_read g h =
       digits = numeral.0.1;
       some = numeral.0.0;
       short = length-digits-le 16 (omega arith) 3 g (omega arith) (omega arith);
-      value = sym numeral.1
+      value = sym numeral.1;
     }
 
 groups_are_read : (gs : List ℕ) → AreGroups gs → AllByRecursion (λ g. IsPart Colons (digits 16 false g) g) gs
@@ -98,7 +98,7 @@ zeros_step g gs true e r =
       end = suc r.end;
       end_is = omega (arith, r.end_is);
       within = omega (arith, r.within);
-      zeros = λ i. none i ∷ r.zeros i
+      zeros = λ i. none i ∷ r.zeros i;
     })
 zeros_step g gs false e r = record { end = 0; end_is = omega arith; within = omega arith; zeros = refl }
 
@@ -112,7 +112,7 @@ later_run g gs before len r = record {
   end = suc r.end;
   end_is = omega (arith, r.end_is);
   within = omega (arith, r.within);
-  zeros = ap (λ xs. g ∷ xs) r.zeros
+  zeros = ap (λ xs. g ∷ xs) r.zeros;
 }
 
 pub record RunFound (start : ℕ) (gs : List ℕ) (run : ZeroRun) : Type 0 where
@@ -125,7 +125,7 @@ run_step : (start g : ℕ) (gs : List ℕ) (t : Bool) → RunFound (start + 1) g
 run_step start g gs true later = record {
   before = suc later.before;
   place = omega (arith, later.place);
-  is_run = later_run g gs later.before (longest_run (start + 1) gs).len later.is_run
+  is_run = later_run g gs later.before (longest_run (start + 1) gs).len later.is_run;
 }
 run_step start g gs false later = record { before = 0; place = omega arith; is_run = front_zeros (g ∷ gs) }
 
@@ -141,13 +141,15 @@ shortened_is_read n gs start len eight all value long run =
     let back : length (drop (start + len) gs) ≡ 8 - (start + len) = omega (arith, length-drop (start + len) gs) in
     let gap : 8 - (length (take start gs) + length (drop (start + len) gs)) ≡ len = omega (arith, run.within, run.end_is) in
     record {
-      front = take start gs; back = drop (start + len) gs;
-      front_text = hexadecimal_groups (take start gs); back_text = hexadecimal_groups (drop (start + len) gs);
+      front = take start gs;
+      back = drop (start + len) gs;
+      front_text = hexadecimal_groups (take start gs);
+      back_text = hexadecimal_groups (drop (start + len) gs);
       gap = omega (arith, run.within, run.end_is);
       whole = refl;
       front_parts = hexadecimal_is_read (take start gs) (all_take start gs all);
       back_parts = hexadecimal_is_read (drop (start + len) gs) (all_drop (start + len) gs all);
-      value = value ∙ ap (number_from_digits 65536) (run.zeros ∙ (λ i. take start gs ++ (replicate (sym gap i) 0 ++ drop (run.end_is i) gs)))
+      value = value ∙ ap (number_from_digits 65536) (run.zeros ∙ (λ i. take start gs ++ (replicate (sym gap i) 0 ++ drop (run.end_is i) gs)));
     }
 
 by_length : (n : ℕ) (gs : List ℕ) (run : ZeroRun) (t : Bool) → nat_lt run.len 2 ≡ t → length gs ≡ 8 → AreGroups gs → n ≡ number_from_digits 65536 gs → RunFound 0 gs run
@@ -182,5 +184,5 @@ written_prefix_is_read b h block =
       whole = refl;
       form = written_address_is_read b.base h;
       len = whole.0;
-      base = whole.1
+      base = whole.1;
     }

@@ -1,5 +1,5 @@
 -- What stands at a key once a thing was put.
-use Rattle.std.proofs.Common.{◌≡◌, List, [], ◌∷◌, Option, Some, None, Bool, true, false, if◌then◌else◌, refl, sym, ap, ◌∙◌}
+use Rattle.std.proofs.Common.{◌≡◌, List, [], ◌∷◌, Some, None, if◌then◌else◌, refl, sym, ap, ◌∙◌}
 use Rattle.std.specs.declared.cmp.Ordering.{Ordering}
 use Rattle.std.specs.declared.cmp.Ordering.TheVariants.{Less, Equal, Greater}
 use Rattle.std.specs.Cmp.{IsTotalOrder}
@@ -24,8 +24,8 @@ module _ {T K : Type 0} (key : T → K) {cmp : K → K → Ordering} (o : IsTota
   found_put (y ∷ ys) = by_place (cmp (key y) (key x)) refl (found_put ys)
     where
       behind : cmp (key y) (key x) ≡ Less → (r : Ordering) → cmp (key y) k ≡ r
-        → found (λ z. cmp (key z) k) (put (λ z. cmp (key z) (key x)) x ys) ≡ (if is_eq (cmp (key x) k) then Some x else found (λ z. cmp (key z) k) ys)
-        → match_ordering r (found (λ z. cmp (key z) k) (put (λ z. cmp (key z) (key x)) x ys)) (Some y) None
+          → found (λ z. cmp (key z) k) (put (λ z. cmp (key z) (key x)) x ys) ≡ (if is_eq (cmp (key x) k) then Some x else found (λ z. cmp (key z) k) ys)
+          → match_ordering r (found (λ z. cmp (key z) k) (put (λ z. cmp (key z) (key x)) x ys)) (Some y) None
           ≡ (if is_eq (cmp (key x) k) then Some x else match_ordering r (found (λ z. cmp (key z) k) ys) (Some y) None)
       behind less Less is rest = rest
       behind less Equal is rest =
@@ -36,14 +36,14 @@ module _ {T K : Type 0} (key : T → K) {cmp : K → K → Ordering} (o : IsTota
           rw after refl
 
       in_place : cmp (key y) (key x) ≡ Equal → (r : Ordering) → cmp (key x) k ≡ r
-        → match_ordering r (found (λ z. cmp (key z) k) ys) (Some x) None
+          → match_ordering r (found (λ z. cmp (key z) k) ys) (Some x) None
           ≡ (if is_eq r then Some x else match_ordering r (found (λ z. cmp (key z) k) ys) (Some y) None)
       in_place equal Less is = refl
       in_place equal Equal is = refl
       in_place equal Greater is = refl
 
       before : cmp (key y) (key x) ≡ Greater → (r : Ordering) → cmp (key x) k ≡ r
-        → match_ordering r (found (λ z. cmp (key z) k) (y ∷ ys)) (Some x) None
+          → match_ordering r (found (λ z. cmp (key z) k) (y ∷ ys)) (Some x) None
           ≡ (if is_eq r then Some x else found (λ z. cmp (key z) k) (y ∷ ys))
       before greater Less is = refl
       before greater Equal is = refl
@@ -52,8 +52,8 @@ module _ {T K : Type 0} (key : T → K) {cmp : K → K → Ordering} (o : IsTota
           rw after refl
 
       by_place : (r : Ordering) → cmp (key y) (key x) ≡ r
-        → found (λ z. cmp (key z) k) (put (λ z. cmp (key z) (key x)) x ys) ≡ (if is_eq (cmp (key x) k) then Some x else found (λ z. cmp (key z) k) ys)
-        → found (λ z. cmp (key z) k) (match_ordering r (y ∷ put (λ z. cmp (key z) (key x)) x ys) (x ∷ ys) (x ∷ y ∷ ys))
+          → found (λ z. cmp (key z) k) (put (λ z. cmp (key z) (key x)) x ys) ≡ (if is_eq (cmp (key x) k) then Some x else found (λ z. cmp (key z) k) ys)
+          → found (λ z. cmp (key z) k) (match_ordering r (y ∷ put (λ z. cmp (key z) (key x)) x ys) (x ∷ ys) (x ∷ y ∷ ys))
           ≡ (if is_eq (cmp (key x) k) then Some x else found (λ z. cmp (key z) k) (y ∷ ys))
       by_place Less is rest = behind is (cmp (key y) k) refl rest
       by_place Equal is rest = rw (o.congr (key y) (key x) k is) (in_place is (cmp (key x) k) refl)

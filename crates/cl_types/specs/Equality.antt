@@ -1,5 +1,5 @@
 -- Equality of plain data as a test.
-use Rattle.std.specs.Prelude.{◌≡◌, ℕ, List, Bool, true, false, ◌&&◌, ◌==◌, nat_eq}
+use Rattle.std.specs.Prelude.{ℕ, List, Bool, true, false, ◌&&◌, ◌==◌, nat_eq}
 use base.Stored.{Gv, gnil, gnum, gcons, Coded}
 use lib.Pointwise.{pointwise}
 use Rattle.cl_types.specs.declared.addr.Addr.{Addr}

@@ -1,5 +1,5 @@
 -- The tests of equality hold exactly where the two are one.
-use Rattle.std.proofs.Common.{◌≡◌, ℕ, List, Bool, true, false, ◌&&◌, ◌==◌, refl, ap, sym, subst, ◌∙◌, ◌↔◌, arith, rules, IsTrue}
+use Rattle.std.proofs.Common.{◌≡◌, ℕ, List, Bool, true, false, ◌&&◌, refl, ap, sym, subst, ◌∙◌, ◌↔◌, arith, rules, IsTrue}
 use base.Stored.{Gv, gnil, gnum, gcons, Coded}
 use Rattle.std.proofs.lemmas.Bool.Decides.{nat_tests}
 use Rattle.std.specs.Ordering.{nat_cmp, eq_by_cmp, is_eq}

@@ -1,6 +1,8 @@
 pub mod Addr
+pub mod AddrEq
 pub mod Ascending
 pub mod AscendingLaws
+pub mod Blocks
 pub mod Equality
 pub mod EqualityLaws
 pub mod Judgement

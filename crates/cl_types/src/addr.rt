@@ -1,14 +1,74 @@
-ghost use Rattle.std.specs.Prelude.{◌≡◌, ◌↔◌, IsTrue, IfOk};
+ghost use Rattle.std.specs.Prelude.{◌≡◌, ◌^◌, ◌<◌, ◌↔◌, IsTrue, IfOk, refl};
+ghost use Rattle.std.specs.Ordering.{as_partial_cmp};
+ghost use Rattle.std.specs.Cmp.{partial_order_from_agreeing_total};
 
 use crate::copies::Copies;
 use crate::memory::NoMemory;
 use crate::same::Same;
+use std::cmp::Ordering;
 
 /// An address of either family. `V4` comes before `V6`.
-#[derive(Clone, Copy, Debug, PartialEq, Eq, PartialOrd, Ord)]
+#[derive(Clone, Copy, Debug, PartialEq, Eq)]
 pub enum Addr {
     V4(u32),
     V6(u128),
+}
+
+impl Addr {
+    ghost use Rattle.cl_types.specs.Addr.{width_of, number_of};
+
+    // How many bits an address of this family has.
+    pub(crate) fn width(self) -> u8
+        ensures { result ≡ width_of self }
+    {
+        match self {
+            Addr::V4(_) => 32,
+            Addr::V6(_) => 128,
+        }
+    }
+
+    pub(crate) fn number(self) -> u128
+        ensures value { result ≡ number_of self }
+        ensures small { result < 2 ^ width_of self }
+    {
+        match self {
+            Addr::V4(n) => u128::from(n),
+            Addr::V6(n) => n,
+        }
+    }
+}
+
+/// IPv4 before IPv6, then by number.
+impl Ord for Addr {
+    ghost use Rattle.cl_types.specs.Addr.{addr_order, addr_order_total};
+    ghost use Rattle.cl_types.specs.AddrEq.{addr_eq_by_order};
+
+    ghost cmp = { addr_order };
+
+    ghost total = { addr_order_total };
+
+    ghost matches_partial_cmp = { λ a b. refl };
+
+    ghost matches_eq = { addr_eq_by_order };
+
+    fn cmp(&self, other: &Addr) -> Ordering {
+        self.width()
+            .cmp(&other.width())
+            .then(self.number().cmp(&other.number()))
+    }
+}
+
+impl PartialOrd for Addr {
+    ghost use Rattle.cl_types.specs.Addr.{addr_order, addr_order_total};
+    ghost use Rattle.cl_types.specs.AddrEq.{addr_eq_by_order};
+
+    ghost partial_cmp = { as_partial_cmp addr_order };
+
+    ghost laws = { partial_order_from_agreeing_total addr_order addr_order_total (λ a b. refl) addr_eq_by_order };
+
+    fn partial_cmp(&self, other: &Addr) -> Option<Ordering> {
+        Some(self.cmp(other))
+    }
 }
 
 impl Copies for Addr {

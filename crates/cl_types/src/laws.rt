@@ -18,15 +18,13 @@ pub fn orders_are_exact()
     ensures addresses { (a b : Addr) → addr_order a b ≡ Equal → a ≡ b }
     ensures policies { (a b : PolicyName) → policy_order a b ≡ Equal → a ≡ b }
     ensures rules { (a b : RuleKey) → rule_order a b ≡ Equal → a ≡ b }
-{
-}
+{}
 
 /// A text is a form of one address at most, and of one prefix at most.
 pub fn texts_have_one_reading()
     ensures addresses { (text : List ℕ) (a b : Addr) → IsAddress text a → IsAddress text b → a ≡ b }
     ensures prefixes { (text : List ℕ) (p q : Block) → IsPrefix text p → IsPrefix text q → p ≡ q }
-{
-}
+{}
 
 /// Different policies have different texts. So have rules that differ in policy, direction or index, and
 /// pods whose namespaces have no `/`.
@@ -37,8 +35,7 @@ pub fn texts_tell_names_apart()
         → (a.policy ≡ b.policy) × (a.dir ≡ b.dir) × (a.index ≡ b.index) }
     ensures pods { (a b : PodKey) → HasNoSlash a.namespace → HasNoSlash b.namespace
         → pod_text a ≡ pod_text b → a ≡ b }
-{
-}
+{}
 
 /// What is written of an address or a prefix is read as that address or prefix.
 pub fn written_is_read()

@@ -2,6 +2,7 @@
 #![tactic(auto)]
 
 mod addr;
+mod blocks;
 mod copies;
 mod equality;
 mod keyed;
@@ -17,6 +18,7 @@ mod traffic;
 mod writing;
 
 pub use addr::Addr;
+pub use blocks::{blocks_of_range, blocks_without};
 pub use copies::Copies;
 pub use keyed::{Keyed, find, put, search};
 pub use keys::{Dir, PodKey, PolicyKey, PolicyKind, RuleKey, rule_cmp};

@@ -295,3 +295,6 @@ pub fn write_judged(out: &mut Text, judged: &Judged) -> Result<(), NoMemory>
     let done = append_judged(out, judged);
     undone(out, len, done)
 }
+
+#[cfg(test)]
+mod tests;

@@ -5,6 +5,7 @@ use std::test::Fail;
 
 const V4: &[(&[u8], Option<u32>)] = &[
     (b"0.0.0.0", Some(0)),
+    (b"0.0.0.1", Some(1)),
     (b"10.0.1.255", Some(0x0a00_01ff)),
     (b"255.255.255.255", Some(0xffff_ffff)),
     (b"", None),
