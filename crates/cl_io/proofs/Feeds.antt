@@ -1,9 +1,9 @@
 -- Lines of a text, from its front.
-use Rattle.std.proofs.Common.{◌≡◌, ◌≢◌, ℕ, suc, ◌+◌, ◌<◌, ◌≤◌, Bool, true, false, eqb, cond, List, [], ◌∷◌, ◌++◌, length, take, All, refl, sym, ap, ◌∙◌, append_assoc, subst, arith, rules, add_assoc}
+use Rattle.std.proofs.Common.{◌≡◌, ◌≢◌, ℕ, suc, ◌+◌, Bool, true, false, eqb, cond, List, [], ◌∷◌, ◌++◌, All, refl, sym, ap, ◌∙◌, append_assoc, arith}
 use Rattle.std.proofs.lemmas.Bool.Decides.{nat_tests}
 use Rattle.cl_io.specs.Files.{Entry, read_last, read_entry, names_of, byte_count}
 use Rattle.cl_io.specs.Front.{HasNoFeed}
-use Rattle.cl_io.specs.Lines.{lines_of, led_by, whole_lines, first_bytes}
+use Rattle.cl_io.specs.Lines.{lines_of, led_by, whole_lines}
 
 pub All-tail : {A : Type 0} (P : A → Type 0) (x : A) (xs : List A) → All P (x ∷ xs) → All P xs
 All-tail P x xs h = λ k d lt. h (suc k) d (omega arith)

@@ -1,4 +1,4 @@
-ghost use Rattle.std.specs.Prelude.{◌≡◌, ℕ, ◌+◌, ◌<◌, ◌≤◌, Bool, IsTrue, Option, Some, option_map, List, [], ◌∷◌, length, take, All, IsOk, IsSome, IfSome, IfOk, OnOk, OnErr};
+ghost use Rattle.std.specs.Prelude.{◌≡◌, ℕ, ◌+◌, ◌<◌, ◌≤◌, Bool, IsTrue, Option, Some, option_map, List, [], ◌∷◌, length, take, All, IsOk, IfSome, IfOk, OnOk, OnErr};
 ghost use Rattle.cl_io.specs.Causes.{Rose};
 ghost use Rattle.cl_io.specs.Files.{Entry, begun_entry, read_last, IsOfContent};
 ghost use Rattle.cl_io.specs.Telling.{Adds, StaysTold};

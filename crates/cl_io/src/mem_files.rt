@@ -1,4 +1,4 @@
-ghost use Rattle.std.specs.Prelude.{◌≡◌, ◌≤◌, ◌<◌, ◌+◌, ◌-◌, ◌&&◌, ◌||◌, ◌==◌, ℕ, Bool, true, false, [], ◌∷◌, ◌++◌, Some, None, IsTrue, IfOk, IfSome, MatchOption, is_none, is_some, length, map, take, option_to_list, vec_len, vec_capacity, nat_lt, if◌then◌else◌};
+ghost use Rattle.std.specs.Prelude.{◌≡◌, ◌≤◌, ◌<◌, ◌+◌, ◌-◌, ◌&&◌, ◌==◌, true, false, [], ◌∷◌, ◌++◌, Some, None, IsTrue, IfOk, MatchOption, is_none, is_some, length, map, option_to_list, vec_len, vec_capacity, nat_lt, if◌then◌else◌};
 ghost use Rattle.std.specs.Option.{ForSome, ForNone};
 ghost use Rattle.cl_io.specs.Memory.{content_of, bytes_at, name_at, has_file, is_known, is_empty, file_place, name_place, entry_of, tried_name, where_told, parts_of, fresh_part, part_after, first_place, IsReadable};
 

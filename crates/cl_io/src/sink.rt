@@ -1,4 +1,4 @@
-ghost use Rattle.std.specs.Prelude.{◌≡◌, ℕ, ◌+◌, ◌<◌, ◌≤◌, Bool, IsTrue, Option, List, length, take, IsOk, IfSome, IfOk, OnErr};
+ghost use Rattle.std.specs.Prelude.{◌≡◌, ℕ, ◌<◌, ◌≤◌, Bool, IsTrue, Option, List, length, take, IsOk, IfSome, IfOk, OnErr};
 ghost use Rattle.cl_io.specs.Causes.{Rose};
 ghost use Rattle.cl_io.specs.Sink.{Lowers, Takes};
 ghost use Rattle.cl_io.specs.Telling.{Adds};
