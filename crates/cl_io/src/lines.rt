@@ -334,7 +334,6 @@ impl Lines {
         let left = self.input_limit - self.total;
         let most = left.min(CHUNK).max(1);
         self.start = 0;
-        self.chunk.clear();
         let count = read_chunk(files, &mut self.chunk, most)?;
         if count > left {
             self.chunk.clear();
@@ -406,12 +405,11 @@ fn read_chunk<F: Files>(files: &mut F, chunk: &mut Vec<u8>, most: u64) -> Result
     ensures there { F.there files.new ≡ F.there files.old }
 {
     chunk.clear();
-    let mut buffer = vec![in *chunk.allocator(); 0; most as usize]?;
-    let read = files.read(buffer.as_mut_slice());
-    let Ok(count) = read else {
+    chunk.resize(most as usize, 0)?;
+    let Ok(count) = files.read(chunk.as_mut_slice()) else {
+        chunk.clear();
         return Err(LineFault::Read);
     };
-    buffer.truncate(count);
-    *chunk = buffer;
+    chunk.truncate(count);
     Ok(count as u64)
 }
