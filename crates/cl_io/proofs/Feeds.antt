@@ -1,5 +1,5 @@
 -- Lines of a text, from its front.
-use Rattle.std.proofs.Common.{◌≡◌, ◌≢◌, ℕ, suc, ◌+◌, ◌<◌, ◌≤◌, Bool, true, false, eqb, cond, List, [], ◌∷◌, ◌++◌, length, take, All, refl, sym, ap, ◌∙◌, append_assoc, subst, arith, rules, add_assoc}
+use Rattle.std.proofs.Common.{◌≡◌, ◌≢◌, ℕ, suc, ◌+◌, Bool, true, false, eqb, cond, List, [], ◌∷◌, ◌++◌, All, refl, sym, ap, ◌∙◌, append_assoc, arith, ◌-◌, ◌≤◌, ltb, length, take}
 use Rattle.std.proofs.lemmas.Bool.Decides.{nat_tests}
 use Rattle.cl_io.specs.Files.{Entry, read_last, read_entry, names_of, byte_count}
 use Rattle.cl_io.specs.Front.{HasNoFeed}
@@ -52,3 +52,12 @@ pub read_last-append : (bytes : List ℕ) (xs : List Entry) (x : Entry) → read
 read_last-append bytes [] x = refl
 read_last-append bytes (y ∷ []) x = refl
 read_last-append bytes (y ∷ z ∷ xs) x = ap (λ w. y ∷ w) (read_last-append bytes (z ∷ xs) x)
+
+-- files with no more bytes than that are as they are
+pub first_bytes-all : (n : ℕ) (entries : List Entry) → byte_count entries ≤ n → first_bytes n entries ≡ entries
+first_bytes-all n [] h = refl
+first_bytes-all n (entry ∷ entries) h =
+    let short : length entry.bytes ≤ n = omega (arith, h) in
+    let test : ltb n (length entry.bytes) ≡ false = grind (arith, nat_tests, short) in
+    ap (λ t. cond t (record { name = entry.name; bytes = take n entry.bytes; ended = false } ∷ []) (entry ∷ first_bytes (n - length entry.bytes) entries)) test ∙
+    ap (λ z. entry ∷ z) (first_bytes-all (n - length entry.bytes) entries (omega (arith, h)))

@@ -1,5 +1,5 @@
 -- What a reader keeps from the first step of an answer to the last.
-use Rattle.std.proofs.Common.{◌≡◌, ℕ, ◌+◌, ◌-◌, ◌<◌, ◌≤◌, Bool, IsTrue, Option, Result, Ok, Err, List, [], ◌∷◌, ◌++◌, length, take, drop, All, refl, sym, ap, ◌∙◌, append-nil, subst, arith, rules}
+use Rattle.std.proofs.Common.{◌≡◌, ℕ, ◌+◌, ◌-◌, ◌≤◌, Bool, IsTrue, Option, Result, Ok, Err, List, [], ◌∷◌, length, take, drop, All, refl, sym, ap, ◌∙◌, append-nil, subst, arith}
 use Rattle.std.proofs.lemmas.List.{drop-drop}
 use Rattle.std.proofs.lemmas.List.Elements.{All-drop}
 use Rattle.cl_io.specs.declared.lines.Front.{Front}
@@ -13,7 +13,7 @@ use Rattle.cl_io.specs.Answers.{Hands, GoesOn, Leaves, BeginsInOrder, EachLeft, 
 use Rattle.cl_io.specs.Files.{Entry}
 use Rattle.cl_io.specs.Front.{IsFront, HasNoFeed}
 use Rattle.cl_io.specs.Reading.{Reading, Told, told, Stands, SameTask, IsFinished, IsUnopened, IsUnreadable, IsOverfull}
-use Rattle.cl_io.specs.Telling.{Adds, StaysTold}
+use Rattle.cl_io.specs.Telling.{Adds}
 use Rattle.cl_io.specs.Turns.{before, Turns}
 
 -- what is known of files

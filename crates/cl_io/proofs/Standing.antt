@@ -1,5 +1,5 @@
 -- How a reader stands after each of its steps.
-use Rattle.std.proofs.Common.{◌≡◌, ◌≢◌, ℕ, zero, suc, ◌+◌, ◌-◌, ◌<◌, ◌≤◌, Bool, true, false, ltb, cond, MatchBool, Option, Some, None, option_map, List, [], ◌∷◌, ◌++◌, length, take, drop, All, refl, sym, ap, ◌∙◌, append_assoc, append-nil, subst, arith, rules, length-append}
+use Rattle.std.proofs.Common.{◌≡◌, ℕ, zero, suc, ◌+◌, ◌-◌, ◌<◌, ◌≤◌, Bool, true, false, ltb, cond, MatchBool, Option, Some, None, option_map, List, [], ◌∷◌, ◌++◌, length, take, All, refl, sym, ap, ◌∙◌, append_assoc, append-nil, subst, arith, length-append}
 use Rattle.std.proofs.lemmas.Bool.Decides.{nat_tests}
 use Rattle.std.proofs.lemmas.List.{take_more, take_all}
 use Rattle.std.proofs.lemmas.List.Elements.{All-append}
@@ -7,7 +7,7 @@ use Rattle.std.proofs.Math.Seq.{take-append_seam}
 use Rattle.cl_io.specs.Files.{Entry, IsEnded, begun_entry, read_entry, read_last, names_of, byte_count}
 use Rattle.cl_io.specs.Front.{HasNoFeed}
 use Rattle.cl_io.specs.Lines.{lines_of, whole_lines, first_bytes}
-use Rattle.cl_io.specs.Reading.{Reading, Told, told, IsCutShort, IsBetween, IsAmid, Took, Stands, IsFinished, IsUnopened, IsUnreadable, IsOverfull}
+use Rattle.cl_io.specs.Reading.{Reading, Told, told, IsBetween, IsAmid, Took, Stands, IsFinished, IsUnopened, IsUnreadable, IsOverfull}
 use Rattle.cl_io.specs.Telling.{Adds, AddsSome}
 use Rattle.cl_io.specs.Turns.{with_pending, next_name, after_begin}
 use Rattle.cl_io.proofs.Feeds.{lines_of-feed, lines_of-open, lines_of-last, whole_lines-append, names_of-append, byte_count-append, read_last-append}

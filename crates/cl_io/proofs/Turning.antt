@@ -1,19 +1,18 @@
 -- What a step of the reader comes to, from what its calls ensure.
-use Rattle.std.proofs.Common.{◌≡◌, ℕ, ◌+◌, ◌<◌, ◌≤◌, Bool, true, false, IsTrue, Option, option_map, Result, Ok, Err, ◌⊎◌, inl, inr, List, [], ◌∷◌, ◌++◌, length, drop, All, get_or, refl, sym, ap, ◌∙◌, append_assoc, append-nil, subst, arith, rules, length-append}
+use Rattle.std.proofs.Common.{◌≡◌, ℕ, ◌+◌, ◌<◌, ◌≤◌, Bool, true, false, IsTrue, Option, option_map, Result, Ok, Err, ◌⊎◌, inl, inr, List, [], ◌∷◌, ◌++◌, length, get_or, refl, sym, ap, ◌∙◌, append_assoc, append-nil, subst, arith, length-append}
 use Rattle.std.proofs.lemmas.List.Elements.{All-append}
 use Rattle.std.proofs.lemmas.List.{get_or-drop, length-drop}
 use Rattle.cl_io.specs.declared.lines.Front.{Front}
 use Rattle.cl_io.specs.declared.lines.Turn.{Turn}
-use Rattle.cl_io.specs.declared.lines.Turn.TheVariants.{On, LineEnds, NoMore}
 use Rattle.cl_io.specs.declared.lines.LineFault.{LineFault}
 use Rattle.cl_io.specs.declared.lines.LineFault.TheVariants.{Begin, Read, InputTooLong, NoMemory}
 use Rattle.cl_io.specs.Answers.{EachLeft, IsUnfailing, KeepsTelling}
 use Rattle.cl_io.specs.Files.{Entry, begun_entry, read_last}
 use Rattle.cl_io.specs.Front.{IsFront, Gains, HasNoFeed, Parts}
-use Rattle.cl_io.specs.Reading.{Reading, Told, told, Stands, IsFinished, IsUnopened, IsUnreadable, IsOverfull}
+use Rattle.cl_io.specs.Reading.{Reading, Told, told, Stands, IsUnopened, IsUnreadable, IsOverfull}
 use Rattle.cl_io.specs.Telling.{Adds, AddsSome, StaysTold}
 use Rattle.cl_io.specs.Turns.{with_pending, next_name, after_begin, after_read, before, GoesFurther, EndsLine, EndsAll, StopsWith, Turns}
-use Rattle.cl_io.proofs.Standing.{Stands-fed, Stands-begun, Stands-read, Stands-ended, Stands-between, finished, unopened, unreadable, overfull, last_line, last_line-some, last_line-none}
+use Rattle.cl_io.proofs.Standing.{Stands-fed, Stands-begun, Stands-read, Stands-ended, Stands-between, finished, unopened, unreadable, overfull, last_line-some, last_line-none}
 
 -- all that was pending went to the front of the line
 pub record Advanced (reading : Reading) (was : Told) (line : List ℕ) (reading' : Reading) (front : Front) : Type 0 where

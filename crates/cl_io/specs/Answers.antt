@@ -1,11 +1,11 @@
 -- The answers of a reader of lines.
-use Rattle.std.specs.Prelude.{◌≡◌, ℕ, ◌+◌, ◌<◌, ◌≤◌, Option, Result, Ok, Err, List, [], ◌∷◌, ◌++◌, Bool, IsTrue, IsSome, IsErrOf, length, drop, take, All, ⊤, OnErr}
+use Rattle.std.specs.Prelude.{◌≡◌, ℕ, ◌+◌, ◌<◌, ◌≤◌, Option, Result, List, [], ◌∷◌, ◌++◌, Bool, IsTrue, IsErrOf, length, drop, take, All, ⊤}
 use Rattle.cl_io.specs.declared.lines.Line.{Line}
 use Rattle.cl_io.specs.declared.lines.Line.TheVariants.{Whole, TooLong, End}
 use Rattle.cl_io.specs.declared.lines.LineFault.{LineFault}
 use Rattle.cl_io.specs.declared.lines.LineFault.TheVariants.{Begin, Read}
 use Rattle.cl_io.specs.Files.{Entry}
-use Rattle.cl_io.specs.Reading.{Reading, Told, Stands, IsFinished, IsUnopened, IsUnreadable, IsOverfull}
+use Rattle.cl_io.specs.Reading.{Reading, Told, Stands}
 use Rattle.cl_io.specs.Telling.{Adds, AddsSome, StaysTold}
 
 -- the lines that an answer hands out: of one that is too long only the length

@@ -1,5 +1,5 @@
 -- The front of a line that is being read, of which no more is kept than a line may have.
-use Rattle.std.specs.Prelude.{◌≡◌, ◌≢◌, ℕ, ◌+◌, ◌<◌, ◌≤◌, List, [], ◌∷◌, ◌++◌, Bool, true, false, All, length}
+use Rattle.std.specs.Prelude.{◌≡◌, ◌≢◌, ℕ, ◌≤◌, List, [], ◌∷◌, ◌++◌, Bool, true, false, All, length}
 use Rattle.cl_io.specs.declared.lines.Front.{Front}
 
 -- it stands for these bytes: all are counted, and kept while they aren't more than the limit

@@ -1,5 +1,5 @@
 -- Files in memory and a sink in memory, as what files and sinks are.
-use Rattle.std.specs.Prelude.{◌≡◌, ◌≤◌, ◌<◌, ℕ, Bool, true, false, ◌&&◌, ◌||◌, ◌+◌, Option, Some, None, IsTrue, is_some, is_none, List, [], ◌∷◌, ◌++◌, length, take, map, position, nat_eq, option_map, unwrap_or, option_to_list, if◌then◌else◌}
+use Rattle.std.specs.Prelude.{◌≡◌, ◌≤◌, ◌<◌, ℕ, Bool, true, false, ◌||◌, Option, Some, None, is_some, List, [], ◌∷◌, ◌++◌, length, take, position, nat_eq, option_map, unwrap_or, option_to_list, if◌then◌else◌}
 use Rattle.std.specs.List.{slice_get}
 use Rattle.std.specs.Cmp.Lexicographic.{pointwise}
 use Rattle.cl_io.specs.declared.mem_files.NamedBytes.{NamedBytes}

@@ -1,8 +1,8 @@
 -- A reader of lines, and what is known at each of its answers since it was made.
-use Rattle.std.specs.Prelude.{◌≡◌, ℕ, ◌+◌, ◌-◌, ◌<◌, ◌≤◌, Option, Some, List, [], ◌∷◌, ◌++◌, Bool, true, false, IsTrue, length, take, drop, All, MatchBool}
+use Rattle.std.specs.Prelude.{◌≡◌, ℕ, ◌+◌, ◌-◌, ◌≤◌, Option, List, [], ◌∷◌, ◌++◌, Bool, false, take, All, MatchBool}
 use Rattle.cl_io.specs.Files.{Entry, IsEnded, names_of, byte_count}
 use Rattle.cl_io.specs.Lines.{lines_of, whole_lines, first_bytes}
-use Rattle.cl_io.specs.Telling.{Adds, AddsSome, StaysTold}
+use Rattle.cl_io.specs.Telling.{Adds, AddsSome}
 
 -- where a reader stands
 pub record Reading : Type 0 where

@@ -1,10 +1,10 @@
 -- Of each file in memory what was taken begins its content.
-use Rattle.std.specs.Prelude.{◌≡◌, ℕ, Bool, true, false, IfSome, IsTrue, List, [], ◌∷◌, ◌++◌, length, take, drop, map, All, refl, if◌then◌else◌}
-use Rattle.std.proofs.Common.{sym, append-nil, arith, zero, suc, get_or, ◌<◌}
+use Rattle.std.specs.Prelude.{ℕ, Bool, true, false, IfSome, List, [], ◌∷◌, take, drop, map, All, refl, if◌then◌else◌}
+use Rattle.std.proofs.Common.{sym, append-nil, arith, zero, suc}
 use Rattle.std.proofs.lemmas.List.{take-append-drop}
 use Rattle.cl_io.specs.declared.mem_files.NamedBytes.{NamedBytes}
 use Rattle.cl_io.specs.declared.mem_files.Part.{Part}
-use Rattle.cl_io.specs.Files.{Entry, IsOfContent}
+use Rattle.cl_io.specs.Files.{IsOfContent}
 use Rattle.cl_io.specs.Memory.{content_of, name_at, entry_of, where_told}
 
 truthful_entry : (content : List ℕ → List ℕ) (name : List ℕ) (count : ℕ) (ended : Bool) →

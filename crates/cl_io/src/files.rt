@@ -1,4 +1,4 @@
-ghost use Rattle.std.specs.Prelude.{◌≡◌, ℕ, ◌+◌, ◌<◌, ◌≤◌, Bool, IsTrue, Option, Some, option_map, List, [], ◌∷◌, length, take, All, IsOk, IsSome, IfSome, IfOk, OnOk, OnErr};
+ghost use Rattle.std.specs.Prelude.{◌≡◌, ℕ, ◌+◌, ◌<◌, ◌≤◌, Bool, IsTrue, Option, Some, option_map, List, [], ◌∷◌, length, take, All, IsOk, IfSome, IfOk, OnOk, OnErr};
 ghost use Rattle.cl_io.specs.Causes.{Rose};
 ghost use Rattle.cl_io.specs.Files.{Entry, begun_entry, read_last, IsOfContent};
 ghost use Rattle.cl_io.specs.Telling.{Adds, StaysTold};
@@ -42,15 +42,19 @@ pub trait Files {
         ensures not_taken { OnErr result (Adds (taken self.old) [] (taken self.new)) }
 
         // What can still be told.
-        ensures tried_told { IsTrue (knows self.old name.now) → 0 < places self.old → StaysTold (tried self.old) (tried self.new) }
-        ensures taken_told { IsTrue (knows self.old name.now) → 0 < places self.old → StaysTold (taken self.old) (taken self.new) }
-        ensures places { IsTrue (knows self.old name.now) → 0 < places self.old → places self.new + 1 ≡ places self.old }
+        ensures tried_told { IsTrue (knows self.old name.now) → 0 < places self.old
+            → StaysTold (tried self.old) (tried self.new) }
+        ensures taken_told { IsTrue (knows self.old name.now) → 0 < places self.old
+            → StaysTold (taken self.old) (taken self.new) }
+        ensures places { IsTrue (knows self.old name.now) → 0 < places self.old
+            → places self.new + 1 ≡ places self.old }
 
         ensures later { faults self.old ≤ faults self.new }
         ensures cause { OnErr result (Rose (faults self.old) (faults self.new)) }
 
         ensures succeeds { IsTrue (steady self.old) → IsTrue (there self.old name.now) → IsOk result }
-        ensures faultless { IsTrue (steady self.old) → IsTrue (there self.old name.now) → faults self.new ≡ faults self.old }
+        ensures faultless { IsTrue (steady self.old) → IsTrue (there self.old name.now)
+            → faults self.new ≡ faults self.old }
         ensures steady { IsTrue (steady self.old) → IsTrue (steady self.new) }
 
         ensures content { content self.new ≡ content self.old }
@@ -61,7 +65,8 @@ pub trait Files {
     fn read(&mut self, buf: &mut [u8]) -> Result<usize, Failed>
         requires { 0 < length buf.old }
         ensures count { IfOk result (λ n. n ≤ length buf.old) }
-        ensures taken { IfOk result (λ n. taken self.new ≡ option_map (read_last (take n buf.new)) (taken self.old)) }
+        ensures taken { IfOk result
+            (λ n. taken self.new ≡ option_map (read_last (take n buf.new)) (taken self.old)) }
         ensures not_taken { OnErr result (taken self.new ≡ taken self.old) }
         ensures none_begun { IfOk result (λ n. taken self.old ≡ Some [] → n ≡ 0) }
         ensures tried { tried self.new ≡ tried self.old }

@@ -1,4 +1,4 @@
-ghost use Rattle.std.specs.Prelude.{◌≡◌, ◌≢◌, ℕ, ◌+◌, ◌-◌, ◌^◌, ◌<◌, ◌≤◌, [], ◌∷◌, ◌++◌, ◌⊎◌, length, true, false, Ok, Err, Some, IsTrue, IsOk, IsErrOf, IfOk, IfSome, OnOk, OnErr, option_map};
+ghost use Rattle.std.specs.Prelude.{◌≡◌, ℕ, ◌+◌, ◌-◌, ◌^◌, ◌<◌, ◌≤◌, [], ◌∷◌, ◌⊎◌, length, true, false, Ok, Err, Some, IsTrue, IsOk, IfOk, OnOk, OnErr, option_map};
 ghost use Rattle.std.specs.Option.{option_copied};
 ghost use Rattle.std.specs.List.{slice_get};
 ghost use Rattle.cl_io.specs.declared.lines.LineFault.TheVariants.{NoMemory as no_memory};
@@ -130,9 +130,19 @@ impl Model for Lines {
 
     ghost Value = { Reading };
 
-    ghost view = { λ l. record { names = l.names; begun = l.begun; amid = l.amid; pending = drop l.start l.chunk.items; total = l.total; line_limit = l.line_limit; input_limit = l.input_limit } };
+    ghost view = { λ l. record {
+      names = l.names;
+      begun = l.begun;
+      amid = l.amid;
+      pending = drop l.start l.chunk.items;
+      total = l.total;
+      line_limit = l.line_limit;
+      input_limit = l.input_limit;
+    } };
 
-    ghost invariant = { λ l. (l.begun ≤ length l.names) × (l.start ≤ length l.chunk.items) × (length l.chunk.items ≤ l.total + l.start) × (l.total ≤ l.input_limit) × (l.amid ≡ true → 0 < l.begun) };
+    ghost invariant = { λ l. (l.begun ≤ length l.names) × (l.start ≤ length l.chunk.items)
+        × (length l.chunk.items ≤ l.total + l.start) × (l.total ≤ l.input_limit)
+        × (l.amid ≡ true → 0 < l.begun) };
 }
 
 impl Lines {
@@ -178,28 +188,37 @@ impl Lines {
         ensures begun { (self.old.begun ≤ self.new.begun) × (self.new.begun ≤ length self.new.names) }
 
         // Where only this reader used the files from some base on.
-        ensures goes_on { let before = told (F.tried files.old) (F.taken files.old) in let after = told (F.tried files.new) (F.taken files.new) in
+        ensures goes_on { let before = told (F.tried files.old) (F.taken files.old) in
+            let after = told (F.tried files.new) (F.taken files.new) in
             IfOk result (λ line. GoesOn self.old before line self.new after) }
-        ensures end { let before = told (F.tried files.old) (F.taken files.old) in let after = told (F.tried files.new) (F.taken files.new) in
+        ensures end { let before = told (F.tried files.old) (F.taken files.old) in
+            let after = told (F.tried files.new) (F.taken files.new) in
             result ≡ Ok Line.End → Leaves IsFinished self.old before self.new after }
-        ensures unopened { let before = told (F.tried files.old) (F.taken files.old) in let after = told (F.tried files.new) (F.taken files.new) in
+        ensures unopened { let before = told (F.tried files.old) (F.taken files.old) in
+            let after = told (F.tried files.new) (F.taken files.new) in
             result ≡ Err LineFault.Begin → Leaves IsUnopened self.old before self.new after }
-        ensures unreadable { let before = told (F.tried files.old) (F.taken files.old) in let after = told (F.tried files.new) (F.taken files.new) in
+        ensures unreadable { let before = told (F.tried files.old) (F.taken files.old) in
+            let after = told (F.tried files.new) (F.taken files.new) in
             result ≡ Err LineFault.Read → Leaves IsUnreadable self.old before self.new after }
-        ensures overfull { let before = told (F.tried files.old) (F.taken files.old) in let after = told (F.tried files.new) (F.taken files.new) in
+        ensures overfull { let before = told (F.tried files.old) (F.taken files.old) in
+            let after = told (F.tried files.new) (F.taken files.new) in
             result ≡ Err LineFault.InputTooLong → Leaves IsOverfull self.old before self.new after }
-        ensures order { let before = told (F.tried files.old) (F.taken files.old) in let after = told (F.tried files.new) (F.taken files.new) in
+        ensures order { let before = told (F.tried files.old) (F.taken files.old) in
+            let after = told (F.tried files.new) (F.taken files.new) in
             BeginsInOrder self.old before self.new after }
 
         // Causes of failures.
         ensures later { F.faults files.old ≤ F.faults files.new }
-        ensures begin_cause { result ≡ Err LineFault.Begin → (0 < self.new.begun) × Rose (F.faults files.old) (F.faults files.new) }
-        ensures read_cause { result ≡ Err LineFault.Read → (0 < self.new.begun) × Rose (F.faults files.old) (F.faults files.new) }
+        ensures begin_cause { result ≡ Err LineFault.Begin
+            → (0 < self.new.begun) × Rose (F.faults files.old) (F.faults files.new) }
+        ensures read_cause { result ≡ Err LineFault.Read
+            → (0 < self.new.begun) × Rose (F.faults files.old) (F.faults files.new) }
         ensures unfailing { IsTrue (F.steady files.old) → EachLeft (F.there files.old) self.old
             → IsUnfailing (F.faults files.old) result (F.faults files.new) (F.steady files.new) }
 
         // What is told of the files.
-        ensures telling { let before = told (F.tried files.old) (F.taken files.old) in let after = told (F.tried files.new) (F.taken files.new) in
+        ensures telling { let before = told (F.tried files.old) (F.taken files.old) in
+            let after = told (F.tried files.new) (F.taken files.new) in
             EachLeft (F.knows files.old) self.old → length self.old.names ≤ F.places files.old + self.old.begun
             → KeepsTelling self.old before (F.places files.old) self.new after (F.places files.new) }
         ensures content { F.content files.new ≡ F.content files.old }
@@ -220,20 +239,26 @@ impl Lines {
     fn turn<F: Files>(&mut self, files: &mut F, front: &mut Front) -> Result<Turn, LineFault>
         requires { front.old.length + length self.old.pending ≤ self.old.total }
         ensures task { SameTask self.old self.new }
-        ensures begun { (self.old.begun ≤ self.new.begun) × (self.old.begun ≤ length self.old.names → self.new.begun ≤ length self.new.names) }
+        ensures begun { (self.old.begun ≤ self.new.begun)
+            × (self.old.begun ≤ length self.old.names → self.new.begun ≤ length self.new.names) }
         ensures limit { OnOk result (front.new.limit ≡ front.old.limit) }
 
-        ensures turns { let was = told (F.tried files.old) (F.taken files.old) in let now = told (F.tried files.new) (F.taken files.new) in
+        ensures turns { let was = told (F.tried files.old) (F.taken files.old) in
+            let now = told (F.tried files.new) (F.taken files.new) in
             (line : _) → IsFront front.old line → HasNoFeed line → Turns self.old was line result self.new now front.new }
-        ensures order { BeginsInOrder self.old (told (F.tried files.old) (F.taken files.old)) self.new (told (F.tried files.new) (F.taken files.new)) }
+        ensures order { BeginsInOrder self.old (told (F.tried files.old) (F.taken files.old))
+            self.new (told (F.tried files.new) (F.taken files.new)) }
 
         ensures later { F.faults files.old ≤ F.faults files.new }
-        ensures begin_cause { result ≡ Err LineFault.Begin → (0 < self.new.begun) × Rose (F.faults files.old) (F.faults files.new) }
-        ensures read_cause { result ≡ Err LineFault.Read → (0 < self.new.begun) × Rose (F.faults files.old) (F.faults files.new) }
+        ensures begin_cause { result ≡ Err LineFault.Begin
+            → (0 < self.new.begun) × Rose (F.faults files.old) (F.faults files.new) }
+        ensures read_cause { result ≡ Err LineFault.Read
+            → (0 < self.new.begun) × Rose (F.faults files.old) (F.faults files.new) }
         ensures unfailing { IsTrue (F.steady files.old) → EachLeft (F.there files.old) self.old
             → IsUnfailing (F.faults files.old) result (F.faults files.new) (F.steady files.new) }
         ensures telling { EachLeft (F.knows files.old) self.old → length self.old.names ≤ F.places files.old + self.old.begun
-            → KeepsTelling self.old (told (F.tried files.old) (F.taken files.old)) (F.places files.old) self.new (told (F.tried files.new) (F.taken files.new)) (F.places files.new) }
+            → KeepsTelling self.old (told (F.tried files.old) (F.taken files.old)) (F.places files.old)
+            self.new (told (F.tried files.new) (F.taken files.new)) (F.places files.new) }
         ensures content { F.content files.new ≡ F.content files.old }
         ensures knows { F.knows files.new ≡ F.knows files.old }
         ensures there { F.there files.new ≡ F.there files.old }
@@ -281,15 +306,18 @@ impl Lines {
     // Reads on in the file that was begun last, and says whether more came.
     fn fill<F: Files>(&mut self, files: &mut F) -> Result<bool, LineFault>
         requires { self.old.amid ≡ true }
-        ensures reads { IfOk result (λ more. (self.new ≡ after_read self.new.pending self.old) × (more ≡ self.new.amid)) }
+        ensures reads { IfOk result (λ more. (self.new ≡ after_read self.new.pending self.old)
+            × (more ≡ self.new.amid)) }
         ensures within { OnOk result (self.new.total ≤ self.new.input_limit) }
         ensures begun { 0 < self.new.begun }
-        ensures taken { OnOk result (F.taken files.new ≡ option_map (read_last self.new.pending) (F.taken files.old)) }
+        ensures taken { OnOk result
+            (F.taken files.new ≡ option_map (read_last self.new.pending) (F.taken files.old)) }
         ensures tried { F.tried files.new ≡ F.tried files.old }
 
         ensures err { OnErr result (self.new ≡ with_pending self.old self.new.pending) }
         ensures read { result ≡ Err LineFault.Read → F.taken files.new ≡ F.taken files.old }
-        ensures over { result ≡ Err LineFault.InputTooLong → (self.old.total ≡ self.old.input_limit)
+        ensures over { result ≡ Err LineFault.InputTooLong
+            → (self.old.total ≡ self.old.input_limit)
             × ((byte : ℕ) × (F.taken files.new ≡ option_map (read_last (byte ∷ [])) (F.taken files.old))) }
         ensures no_begin { result ≡ Err LineFault.Begin → ⊥ }
         ensures telling { StaysTold (F.taken files.old) (F.taken files.new) }
@@ -297,7 +325,8 @@ impl Lines {
 
         ensures later { F.faults files.old ≤ F.faults files.new }
         ensures cause { result ≡ Err LineFault.Read → Rose (F.faults files.old) (F.faults files.new) }
-        ensures unfailing { IsTrue (F.steady files.old) → IsUnfailing (F.faults files.old) result (F.faults files.new) (F.steady files.new) }
+        ensures unfailing { IsTrue (F.steady files.old)
+            → IsUnfailing (F.faults files.old) result (F.faults files.new) (F.steady files.new) }
         ensures content { F.content files.new ≡ F.content files.old }
         ensures knows { F.knows files.new ≡ F.knows files.old }
         ensures there { F.there files.new ≡ F.there files.old }
@@ -305,7 +334,6 @@ impl Lines {
         let left = self.input_limit - self.total;
         let most = left.min(CHUNK).max(1);
         self.start = 0;
-        self.chunk.clear();
         let count = read_chunk(files, &mut self.chunk, most)?;
         if count > left {
             self.chunk.clear();
@@ -319,18 +347,26 @@ impl Lines {
     // Begins the next file, and says whether there was one.
     fn begin<F: Files>(&mut self, files: &mut F) -> Result<bool, LineFault>
         requires { self.old.amid ≡ false }
-        ensures none { result ≡ Ok false → (self.new ≡ self.old) × (length self.old.names ≤ self.old.begun) × (files.new ≡ files.old) }
-        ensures some { result ≡ Ok true → (self.old.begun < length self.old.names) × (self.new ≡ after_begin true self.old)
+        ensures none { result ≡ Ok false → (self.new ≡ self.old)
+            × (length self.old.names ≤ self.old.begun) × (files.new ≡ files.old) }
+        ensures some { result ≡ Ok true → (self.old.begun < length self.old.names)
+            × (self.new ≡ after_begin true self.old)
             × Adds (F.taken files.old) (begun_entry (next_name self.old) ∷ []) (F.taken files.new) }
-        ensures err { OnErr result ((result ≡ Err LineFault.Begin) × (self.old.begun < length self.old.names) × (self.new ≡ after_begin false self.old)
+        ensures err { OnErr result ((result ≡ Err LineFault.Begin)
+            × (self.old.begun < length self.old.names) × (self.new ≡ after_begin false self.old)
             × Adds (F.taken files.old) [] (F.taken files.new)) }
-        ensures tried { self.new.begun ≡ self.old.begun + 1 → Adds (F.tried files.old) (next_name self.old ∷ []) (F.tried files.new) }
-        ensures telling { self.new.begun ≡ self.old.begun + 1 → IsTrue (F.knows files.old (next_name self.old)) → 0 < F.places files.old
-            → StaysTold (F.tried files.old) (F.tried files.new) × StaysTold (F.taken files.old) (F.taken files.new) × (F.places files.new + 1 ≡ F.places files.old) }
+        ensures tried { self.new.begun ≡ self.old.begun + 1
+            → Adds (F.tried files.old) (next_name self.old ∷ []) (F.tried files.new) }
+        ensures telling { self.new.begun ≡ self.old.begun + 1
+            → IsTrue (F.knows files.old (next_name self.old)) → 0 < F.places files.old
+            → StaysTold (F.tried files.old) (F.tried files.new)
+            × StaysTold (F.taken files.old) (F.taken files.new)
+            × (F.places files.new + 1 ≡ F.places files.old) }
 
         ensures later { F.faults files.old ≤ F.faults files.new }
         ensures cause { OnErr result (Rose (F.faults files.old) (F.faults files.new)) }
-        ensures unfailing { IsTrue (F.steady files.old) → (self.old.begun < length self.old.names → IsTrue (F.there files.old (next_name self.old)))
+        ensures unfailing { IsTrue (F.steady files.old)
+            → (self.old.begun < length self.old.names → IsTrue (F.there files.old (next_name self.old)))
             → IsUnfailing (F.faults files.old) result (F.faults files.new) (F.steady files.new) }
         ensures content { F.content files.new ≡ F.content files.old }
         ensures knows { F.knows files.new ≡ F.knows files.old }
@@ -362,18 +398,18 @@ fn read_chunk<F: Files>(files: &mut F, chunk: &mut Vec<u8>, most: u64) -> Result
     ensures places { F.places files.new ≡ F.places files.old }
     ensures later { F.faults files.old ≤ F.faults files.new }
     ensures cause { result ≡ Err LineFault.Read → Rose (F.faults files.old) (F.faults files.new) }
-    ensures unfailing { IsTrue (F.steady files.old) → IsUnfailing (F.faults files.old) result (F.faults files.new) (F.steady files.new) }
+    ensures unfailing { IsTrue (F.steady files.old)
+        → IsUnfailing (F.faults files.old) result (F.faults files.new) (F.steady files.new) }
     ensures content { F.content files.new ≡ F.content files.old }
     ensures knows { F.knows files.new ≡ F.knows files.old }
     ensures there { F.there files.new ≡ F.there files.old }
 {
     chunk.clear();
-    let mut buffer = vec![in *chunk.allocator(); 0; most as usize]?;
-    let read = files.read(buffer.as_mut_slice());
-    let Ok(count) = read else {
+    chunk.resize(most as usize, 0)?;
+    let Ok(count) = files.read(chunk.as_mut_slice()) else {
+        chunk.clear();
         return Err(LineFault::Read);
     };
-    buffer.truncate(count);
-    *chunk = buffer;
+    chunk.truncate(count);
     Ok(count as u64)
 }

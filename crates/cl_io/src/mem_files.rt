@@ -1,4 +1,4 @@
-ghost use Rattle.std.specs.Prelude.{◌≡◌, ◌≤◌, ◌<◌, ◌+◌, ◌-◌, ◌&&◌, ◌||◌, ◌==◌, ℕ, Bool, true, false, [], ◌∷◌, ◌++◌, Some, None, IsTrue, IfOk, IfSome, MatchOption, is_none, is_some, length, map, take, option_to_list, vec_len, vec_capacity, nat_lt, if◌then◌else◌};
+ghost use Rattle.std.specs.Prelude.{◌≡◌, ◌≤◌, ◌<◌, ◌+◌, ◌-◌, ◌&&◌, ◌==◌, true, false, [], ◌∷◌, ◌++◌, Some, None, IsTrue, IfOk, MatchOption, is_none, is_some, length, map, option_to_list, vec_len, vec_capacity, nat_lt, if◌then◌else◌};
 ghost use Rattle.std.specs.Option.{ForSome, ForNone};
 ghost use Rattle.cl_io.specs.Memory.{content_of, bytes_at, name_at, has_file, is_known, is_empty, file_place, name_place, entry_of, tried_name, where_told, parts_of, fresh_part, part_after, first_place, IsReadable};
 
@@ -72,10 +72,11 @@ impl Log {
     fn begin(&mut self, place: Option<Place>, file: Option<usize>)
         ensures told { self.new.told ≡ (self.old.told && nat_lt 0 self.old.places && is_some place) }
         ensures places { self.new.places ≡ self.old.places - 1 }
-        ensures tried { IsTrue self.new.told → self.new.tried.items ≡ self.old.tried.items ++ option_to_list place }
-        ensures parts { IsTrue self.new.told → MatchOption file
-            (parts_of self.new.earlier.items self.new.current ≡ parts_of self.old.earlier.items self.old.current)
-            (λ f. parts_of self.new.earlier.items self.new.current ≡ parts_of self.old.earlier.items self.old.current ++ fresh_part f ∷ []) }
+        ensures tried { IsTrue self.new.told
+            → self.new.tried.items ≡ self.old.tried.items ++ option_to_list place }
+        ensures parts { let before = parts_of self.old.earlier.items self.old.current in
+            let after = parts_of self.new.earlier.items self.new.current in
+            IsTrue self.new.told → MatchOption file (after ≡ before) (λ f. after ≡ before ++ fresh_part f ∷ []) }
         ensures current { self.new.current ≡ part_after file self.old.current }
     {
         if self.places == 0 {
@@ -131,7 +132,8 @@ impl MemFiles {
         ensures taken { IfOk result (λ made. ⟦<MemFiles as Files>⟧.taken made ≡ Some []) }
         ensures places { IfOk result (λ made. ⟦<MemFiles as Files>⟧.places made ≡ begins) }
         ensures faults { IfOk result (λ made. ⟦<MemFiles as Files>⟧.faults made ≡ 0) }
-        ensures steady { IfOk result (λ made. ⟦<MemFiles as Files>⟧.steady made ≡ (is_empty fail_calls && is_none fail_at)) }
+        ensures steady { IfOk result (λ made.
+            ⟦<MemFiles as Files>⟧.steady made ≡ (is_empty fail_calls && is_none fail_at)) }
     {
         Ok(MemFiles {
             files,
@@ -166,9 +168,11 @@ impl Files for MemFiles {
 
     ghost content = { λ m. content_of m.files };
 
-    ghost tried = { λ m. where_told m.log.told (map (tried_name m.files m.missing) m.log.tried.items) };
+    ghost tried = { λ m. where_told m.log.told
+        (map (tried_name m.files m.missing) m.log.tried.items) };
 
-    ghost taken = { λ m. where_told m.log.told (map (entry_of m.files) (parts_of m.log.earlier.items m.log.current)) };
+    ghost taken = { λ m. where_told m.log.told
+        (map (entry_of m.files) (parts_of m.log.earlier.items m.log.current)) };
 
     ghost knows = { λ m. is_known m.files m.missing };
 

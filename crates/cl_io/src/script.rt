@@ -1,4 +1,4 @@
-ghost use Rattle.std.specs.Prelude.{◌≡◌, ◌≤◌, ℕ, [], IsTrue};
+ghost use Rattle.std.specs.Prelude.{◌≡◌, ◌↔◌, ◌+◌, ◌-◌, ◌^◌, ◌<◌, ◌≤◌, [], IsTrue, Contains};
 ghost use Rattle.cl_io.specs.Causes.{Rose};
 
 use crate::files::Failed;
@@ -27,9 +27,11 @@ impl Script {
 
     // Counts a call, and says whether it is one that fails.
     pub fn fails(&mut self) -> bool
+        ensures counted { self.old.calls < 2 ^ 64 - 1 → self.new.calls ≡ self.old.calls + 1 }
+        ensures exact { IsTrue result ↔ Contains self.old.fail_calls self.new.calls }
+        ensures never { IsTrue result → self.old.fail_calls ≡ [] → ⊥ }
         ensures calls { self.new.fail_calls ≡ self.old.fail_calls }
         ensures faults { self.new.faults ≡ self.old.faults }
-        ensures never { IsTrue result → self.old.fail_calls ≡ [] → ⊥ }
     {
         self.calls = self.calls.saturating_add(1);
         self.fail_calls.as_slice().contains(&self.calls)

@@ -1,4 +1,4 @@
-ghost use Rattle.std.specs.Prelude.{◌≡◌, ℕ, ◌+◌, ◌<◌, ◌≤◌, Bool, IsTrue, Option, List, length, take, IsOk, IfSome, IfOk, OnErr};
+ghost use Rattle.std.specs.Prelude.{◌≡◌, ℕ, ◌<◌, ◌≤◌, Bool, IsTrue, Option, List, length, take, IsOk, IfSome, IfOk, OnErr};
 ghost use Rattle.cl_io.specs.Causes.{Rose};
 ghost use Rattle.cl_io.specs.Sink.{Lowers, Takes};
 ghost use Rattle.cl_io.specs.Telling.{Adds};
@@ -32,18 +32,23 @@ pub trait Sink {
         ensures later { faults self.old ≤ faults self.new }
         ensures cause { OnErr result (Rose (faults self.old) (faults self.new)) }
 
-        ensures succeeds { IsTrue (steady self.old) → IfSome (free self.old) (λ room. 0 < room → IsOk result) }
-        ensures faultless { IsTrue (steady self.old) → IfSome (free self.old) (λ room. 0 < room → faults self.new ≡ faults self.old) }
+        ensures succeeds { IsTrue (steady self.old)
+            → IfSome (free self.old) (λ room. 0 < room → IsOk result) }
+        ensures faultless { IsTrue (steady self.old)
+            → IfSome (free self.old) (λ room. 0 < room → faults self.new ≡ faults self.old) }
         ensures steady { IsTrue (steady self.old) → IsTrue (steady self.new) };
 }
 
 /// Appends the bytes. After a failure a prefix of them stands there. It takes no memory.
 pub fn put<O: Sink>(out: &mut O, bytes: &[u8]) -> Result<(), Failed>
-    ensures takes { Takes bytes.now result (O.written out.old) (O.written out.new) (O.free out.old) (O.free out.new) }
+    ensures takes { Takes bytes.now result
+        (O.written out.old) (O.written out.new) (O.free out.old) (O.free out.new) }
     ensures later { O.faults out.old ≤ O.faults out.new }
     ensures cause { OnErr result (Rose (O.faults out.old) (O.faults out.new)) }
-    ensures succeeds { IsTrue (O.steady out.old) → IfSome (O.free out.old) (λ room. length bytes.now ≤ room → IsOk result) }
-    ensures faultless { IsTrue (O.steady out.old) → IfSome (O.free out.old) (λ room. length bytes.now ≤ room → O.faults out.new ≡ O.faults out.old) }
+    ensures succeeds { IsTrue (O.steady out.old)
+        → IfSome (O.free out.old) (λ room. length bytes.now ≤ room → IsOk result) }
+    ensures faultless { IsTrue (O.steady out.old)
+        → IfSome (O.free out.old) (λ room. length bytes.now ≤ room → O.faults out.new ≡ O.faults out.old) }
     ensures steady { IsTrue (O.steady out.old) → IsTrue (O.steady out.new) }
 {
     let mut rest = bytes;

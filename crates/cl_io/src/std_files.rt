@@ -1,4 +1,4 @@
-ghost use Rattle.std.specs.Prelude.{◌≡◌, ℕ, None, [], false};
+ghost use Rattle.std.specs.Prelude.{◌≡◌, None, [], false};
 
 use crate::files::{Failed, Files};
 use cl_types::Text;

@@ -1,5 +1,5 @@
 use Rattle.std.proofs.Common.{length}
-use Rattle.cl_io.proofs.Putting.{Place, Putting}
+use Rattle.cl_io.proofs.Putting.{Putting}
 use Rattle.cl_io.proofs.sink.put.Given as goal
 
 -- so far the bytes but for the rest were taken

@@ -1,4 +1,4 @@
-use Rattle.std.proofs.Common.{◌≡◌, ℕ, List, [], ◌∷◌, length, get_or, option_map, refl, ap, ◌∙◌, arith, rules}
+use Rattle.std.proofs.Common.{◌≡◌, ℕ, List, [], ◌∷◌, length, get_or, option_map, refl, ap, ◌∙◌, arith}
 use Rattle.cl_io.specs.Files.{read_last}
 use Rattle.cl_io.specs.Reading.{Reading}
 use Rattle.cl_io.proofs.lines.Lines.fill.Goals as goal

@@ -1,8 +1,8 @@
-use Rattle.std.proofs.Common.{rules, ◌≡◌, ℕ, ◌<◌, true, false, inl, inr, subst, sym, ap, ◌∙◌, arith, refl, List, Ok, Err}
+use Rattle.std.proofs.Common.{◌≡◌, true, false, inl, inr, sym, ap, ◌∙◌, arith, Ok, Err}
 use Rattle.std.proofs.lemmas.Bool.Decides.{nat_tests}
 use Rattle.std.proofs.lemmas.Result.{err_from_is_err_and}
 use Rattle.cl_io.specs.Reading.{Reading}
-use Rattle.cl_io.proofs.Turning.{Advanced, fed, advanced, read_on, line_ended, begun_on, all_ended, stops_unopened, stops_unreadable, stops_overfull, Turns-err, EachLeft-next-after, IsUnfailing-ok, IsUnfailing-err, KeepsTelling-begun}
+use Rattle.cl_io.proofs.Turning.{fed, advanced, read_on, line_ended, begun_on, all_ended, stops_unreadable, stops_overfull, Turns-err, EachLeft-next-after, IsUnfailing-ok, IsUnfailing-err, KeepsTelling-begun}
 use Rattle.cl_io.proofs.lines.Lines.turn.Goals as goal
 use Rattle.cl_io.proofs.lines.Lines.turn.Goals.{then-more, else-more}
 

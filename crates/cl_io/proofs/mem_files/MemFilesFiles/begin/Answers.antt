@@ -1,4 +1,4 @@
-use Rattle.std.proofs.Common.{◌≡◌, rules, false, is_none, sym, ap, ◌∙◌}
+use Rattle.std.proofs.Common.{◌≡◌, rules, false, is_none, ap, ◌∙◌}
 use Rattle.cl_io.specs.Memory.{file_place, name_place, first_place}
 use Rattle.cl_io.proofs.InMemory.{tried_adds, readable_after, taken_adds}
 use Rattle.cl_io.proofs.mem_files.MemFilesFiles.begin.Goals as goal
