@@ -1,0 +1,7 @@
+pub mod Falling
+pub mod Ordered
+pub mod Even
+pub mod Room
+pub mod Comes
+pub mod Kept
+pub mod Looked
