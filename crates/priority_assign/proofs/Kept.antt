@@ -13,7 +13,7 @@ use Rattle.priority_assign.specs.Windows.{upper, lower, fits, has_room, is_windo
 use Rattle.priority_assign.specs.Insertion.{even_number, evenly, window_keys, spread, gap, halfway, inserted, changes, relabelled}
 use Rattle.priority_assign.proofs.Falling.{FallsBetween-append, FallsBetween-back, FallsBetween-front, FallsBetween-below, first_number-below, last_number-above}
 use Rattle.priority_assign.proofs.Even.{length-evenly, FallsBetween-evenly, changes-same, changes-append}
-use Rattle.priority_assign.proofs.Room.{Spans, Spans-is_window, fits-least}
+use Rattle.priority_assign.proofs.Room.{Spans, room-fits, fits-least}
 use Rattle.priority_assign.proofs.Comes.{ComesIn, ComesIn-halfway, ComesIn-spread, ordered-ComesIn, length-ComesIn, number_of-ComesIn, remove-ComesIn, gap-ComesIn, place-le, take-split, drop-split, keys-cut}
 
 front_falls : (xs : List Numbered) (n : ℕ) → FallsBetween 64001 99 xs → FallsBetween 64001 (number_after xs n) (take n xs)
@@ -50,11 +50,6 @@ length-window_keys xs k v spans =
 
 even_number-top : (l u w : ℕ) → l ≤ u → even_number l u w (w + 1) ≡ u
 even_number-top l u w le = rw (mul-div_cancel_left (u - l) {n = w + 1} (omega arith)) (omega arith)
-
-pub room-fits : (xs : List Numbered) (p : ℕ) (v : Window) → fits xs p v ≡ true → (Spans (length xs) p v.begin v.width) × (2 * v.width ≤ upper xs v - lower xs v - 1)
-room-fits xs p v fit =
-    let both = and_parts (is_window xs p v) (has_room xs v) fit in
-    (Spans-is_window xs p v both.0, leb-true (2 * v.width) (upper xs v - lower xs v - 1) both.1)
 
 pub falls-spread : (xs : List Numbered) (k : RuleKey) (v : Window) → FallsBetween 64001 99 xs → fits xs (place_of xs k) v ≡ true → FallsBetween 64001 99 (spread xs k v)
 falls-spread xs k v f fit =

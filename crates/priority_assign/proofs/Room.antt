@@ -1,13 +1,13 @@
 -- The first of the windows that has room.
-use Rattle.std.proofs.Common.{◌≡◌, ℕ, ◌+◌, ◌-◌, ◌*◌, ◌<◌, ◌≤◌, List, [], ◌∷◌, ◌++◌, map, length, drop, refl, arith, sym, ap, ◌∙◌, zero, suc, cond, Bool, true, false, Option, Some, None, find, ⊎_elim, ◌&&◌, leb, ltb}
+use Rattle.std.proofs.Common.{◌≡◌, ℕ, ◌+◌, ◌-◌, ◌*◌, ◌<◌, ◌≤◌, List, [], ◌∷◌, ◌++◌, map, length, drop, refl, arith, sym, ap, ◌∙◌, subst, zero, suc, cond, Bool, true, false, Option, Some, None, find, ⊎_elim, ◌&&◌, leb, ltb}
 use Rattle.std.proofs.lemmas.List.{drop_all}
 use Rattle.std.specs.Prelude.{unwrap_or}
 use Rattle.std.specs.List.{flat_map, range_with_len}
-use Rattle.std.proofs.lemmas.Bool.{cases_eq, and_parts, and_from, le-leb, lt-ltb, leb-true, ltb-true}
+use Rattle.std.proofs.lemmas.Bool.{cases_eq, and_parts, and_from, le-leb, lt-ltb, leb-true, leb-false, ltb-true}
 use Rattle.priority_assign.specs.declared.numbered.Numbered.{Numbered}
 use Rattle.priority_assign.specs.declared.window.Window.{Window}
-use Rattle.priority_assign.specs.Rules.{first_number}
-use Rattle.priority_assign.specs.Windows.{fits, has_room, is_window, of_width, windows, window_of_all, least_window}
+use Rattle.priority_assign.specs.Rules.{first_number, number_before, number_after}
+use Rattle.priority_assign.specs.Windows.{upper, lower, fits, has_room, is_window, of_width, windows, window_of_all, least_window}
 
 none_parts : {X : Type 0} (b : Bool) (x : X) (r : Option X) → cond b (Some x) r ≡ None → (b ≡ false) × (r ≡ None)
 none_parts true x r h = cc
@@ -128,3 +128,15 @@ fits-least xs p few within =
       | None ↦ λ e. fits-all xs p few within
       | Some v ↦ λ e. passes (fits xs p) (windows n) v e
     ] refl
+
+pub room-fits : (xs : List Numbered) (p : ℕ) (v : Window) → fits xs p v ≡ true → (Spans (length xs) p v.begin v.width) × (2 * v.width ≤ upper xs v - lower xs v - 1)
+room-fits xs p v fit =
+    let both = and_parts (is_window xs p v) (has_room xs v) fit in
+    (Spans-is_window xs p v both.0, leb-true (2 * v.width) (upper xs v - lower xs v - 1) both.1)
+
+pub no_room-fits : (xs : List Numbered) (p b w : ℕ) → Spans (length xs) p b w → fits xs p (record { begin = b; width = w }) ≡ false → number_before xs b - number_after xs (b + w - 1) - 1 < 2 * w
+no_room-fits xs p b w spans none =
+    let v : Window = record { begin = b; width = w } in
+    let window : is_window xs p v ≡ true =
+        and_from (leb b p && ltb p (b + w)) (leb (b + w) (length xs + 1)) (and_from (leb b p) (ltb p (b + w)) (le-leb b p spans.from) (lt-ltb p (b + w) spans.to)) (le-leb (b + w) (length xs + 1) spans.within) in
+    leb-false (2 * w) (number_before xs b - number_after xs (b + w - 1) - 1) (subst (λ t. (t && has_room xs v) ≡ false) window none)

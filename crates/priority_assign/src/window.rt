@@ -1,5 +1,6 @@
 ghost use Rattle.std.specs.Prelude.{◌≡◌, ◌≤◌, ◌<◌, ◌+◌, ℕ, length, false, MatchOption};
 ghost use Rattle.priority_assign.specs.Rules.{number_before, number_after};
+ghost use Rattle.priority_assign.specs.Search.{is_loose, IsNearestLoose, NoneNarrower};
 ghost use Rattle.priority_assign.specs.Windows.{has_room, least_window, fits, IsFirstBegin};
 
 use crate::numbered::Numbered;
@@ -45,36 +46,100 @@ fn has_room(rules: &[Numbered], window: Window) -> bool
     2 * window.width <= usize::from(between)
 }
 
-/// The first place where a window of this width with room for a rule at `place` begins.
-fn first_begin(rules: &[Numbered], place: usize, width: usize) -> Option<usize>
+/// Whether the window holds no more than all rules and has room.
+fn fits(rules: &[Numbered], place: usize, window: Window) -> bool
+    requires few { length rules.now < 16000 }
+    requires within { place ≤ length rules.now }
+    requires from { window.begin ≤ place }
+    requires to { place < window.begin + window.width }
+    requires narrow { window.width ≤ length rules.now }
+    ensures { result ≡ fits rules.now place window }
+{
+    window.begin + window.width <= rules.len() + 1 && has_room(rules, window)
+}
+
+/// Whether the rules from `begin` up to `place` have more than two numbers each.
+fn is_loose(rules: &[Numbered], place: usize, begin: usize) -> bool
+    requires few { length rules.now < 16000 }
+    requires before { begin < place }
+    requires within { place ≤ length rules.now }
+    ensures { result ≡ is_loose rules.now place begin }
+{
+    let upper = usize::from(number_before(rules, begin));
+    let here = usize::from(number_before(rules, place));
+    here + 2 * (place - begin) < upper
+}
+
+/// The nearest loose place once windows of this width were looked at.
+fn next_loose(rules: &[Numbered], place: usize, width: usize, loose: Option<usize>) -> Option<usize>
+    requires few { length rules.now < 16000 }
+    requires within { place ≤ length rules.now }
+    requires wide { 0 < width }
+    requires loose { IsNearestLoose rules.now place width loose }
+    ensures { IsNearestLoose rules.now place (width + 1) result }
+{
+    if loose.is_none() && 1 < width && width <= place + 1 {
+        let begin = place + 1 - width;
+        if is_loose(rules, place, begin) {
+            return Some(begin);
+        }
+    }
+    loose
+}
+
+/// The first place where a window of this width with room for a rule at `place` begins. Where no narrower
+/// window has room, one of this width can have it only where `place` is the last or the first in it, or
+/// from the nearest loose place on.
+fn first_begin(
+    rules: &[Numbered],
+    place: usize,
+    width: usize,
+    loose: Option<usize>,
+) -> Option<usize>
     requires few { length rules.now < 16000 }
     requires within { place ≤ length rules.now }
     requires wide { 0 < width }
     requires narrow { width ≤ length rules.now }
+    requires full { number_before rules.now place ≡ number_after rules.now place + 1 }
+    requires least { NoneNarrower rules.now place width }
+    requires loose { IsNearestLoose rules.now place width loose }
     ensures { MatchOption result
         ((b : ℕ) → fits rules.now place (record { begin = b; width = width }) ≡ false)
         (λ b. IsFirstBegin rules.now place width b) }
 {
-    let first = (place + 1).saturating_sub(width);
-    let end = place.min(rules.len() + 1 - width) + 1;
-    for begin in first..end {
-        if has_room(rules, Window { begin, width }) {
+    if width <= place + 1 {
+        let begin = place + 1 - width;
+        if fits(rules, place, Window { begin, width }) {
             return Some(begin);
         }
     }
-    None
+    if let Some(begin) = loose {
+        if fits(rules, place, Window { begin, width }) {
+            return Some(begin);
+        }
+    }
+    let begin = place;
+    if fits(rules, place, Window { begin, width }) {
+        Some(begin)
+    } else {
+        None
+    }
 }
 
-/// Of the windows with room the narrowest, and of those as wide the one that begins first.
+/// Of the windows with room the narrowest, and of those as wide the one that begins first. It looks at a
+/// few windows of each width, so that it costs as much as the window is wide.
 pub fn least_window(rules: &[Numbered], place: usize) -> Window
     requires few { length rules.now < 16000 }
     requires within { place ≤ length rules.now }
+    requires full { number_before rules.now place ≡ number_after rules.now place + 1 }
     ensures { result ≡ least_window rules.now place }
 {
+    let mut loose = None;
     for width in 1..rules.len() + 1 {
-        if let Some(begin) = first_begin(rules, place, width) {
+        if let Some(begin) = first_begin(rules, place, width, loose) {
             return Window { begin, width };
         }
+        loose = next_loose(rules, place, width, loose);
     }
     Window {
         begin: 0,

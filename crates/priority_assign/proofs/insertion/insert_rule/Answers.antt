@@ -1,4 +1,4 @@
-use Rattle.std.proofs.Common.{◌≡◌, ◌≤◌, length, [], arith, rules, ap, sym, subst, ◌∙◌, true}
+use Rattle.std.proofs.Common.{◌≡◌, ◌+◌, ◌≤◌, length, [], arith, rules, ap, sym, subst, ◌∙◌, true}
 use Rattle.std.proofs.lemmas.Result.{IfOk-weaker}
 use Rattle.priority_assign.specs.Rules.{place_of, number_after, number_before}
 use Rattle.priority_assign.specs.Windows.{fits, least_window}
@@ -31,3 +31,12 @@ returns-then-upper-lower-ge2-clause-relabelled c =
     let high : c.number_before-upper.result ≡ number_before xs (place_of xs k) = search rules in
     let wide : 2 ≤ gap xs k = omega (arith, c.if-upper-lower-ge2.true, low, high) in
     IfOk-weaker c.insert_halfway.result (λ placed. placed.relabelled ≡ []) (λ placed. placed.relabelled ≡ relabelled xs k) (λ placed none. none ∙ sym (relabelled-wide xs k wide)) c.insert_halfway.ensures.relabelled
+
+pub least_window-window-requires-clause-full : goal.least_window-window-requires-clause-full
+least_window-window-requires-clause-full c =
+    let xs = c.args.rules.now.items in
+    let n = c.place_of-place.result in
+    let low : c.number_after-lower.result ≡ number_after xs n = search rules in
+    let high : c.number_before-upper.result ≡ number_before xs n = search rules in
+    let next : number_before xs n ≡ number_after xs n + 1 = omega (arith, number_after-below xs n c.requires.ladder.falling, low, high, c.if-upper-lower-ge2.false) in
+    subst (λ zs. number_before zs n ≡ number_after zs n + 1) (sym c.as_slice-else-upper-lower-ge2.ensures.value) next

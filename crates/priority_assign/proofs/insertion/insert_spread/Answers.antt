@@ -3,7 +3,8 @@ use Rattle.std.specs.Prelude.{insert, remove, slice_range}
 use Rattle.priority_assign.specs.Rules.{keys, number_of, place_of}
 use Rattle.priority_assign.specs.Windows.{lower, upper, fits}
 use Rattle.priority_assign.specs.Insertion.{even_number, evenly, changes}
-use Rattle.priority_assign.proofs.Kept.{room-fits, spread-insert, number_of-spread, collected-spread}
+use Rattle.priority_assign.proofs.Room.{room-fits}
+use Rattle.priority_assign.proofs.Kept.{spread-insert, number_of-spread, collected-spread}
 use Rattle.priority_assign.proofs.insertion.insert_spread.Goals as goal
 
 pub returns-clause-rules : goal.returns-clause-rules
