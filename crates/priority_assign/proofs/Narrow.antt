@@ -1,10 +1,12 @@
 -- Which windows of a width can have room where no narrower one has.
-use Rattle.std.proofs.Common.{◌≡◌, ℕ, ◌+◌, ◌-◌, ◌*◌, ◌<◌, ◌≤◌, List, length, arith, Option, Some, None, true, false, ◌⊎◌, inl, inr, ⊎_elim, refl, ap, sym, ◌∙◌, ltb}
+use Rattle.std.proofs.Common.{◌≡◌, ℕ, ◌+◌, ◌-◌, ◌*◌, ◌<◌, ◌≤◌, List, length, arith, Option, Some, None, true, false, ◌⊎◌, inl, inr, ⊎_elim, refl, ap, sym, ◌∙◌, subst, cond, Bool, MatchOption}
+use Rattle.std.specs.Bool.{then_some}
 use Rattle.std.proofs.lemmas.Bool.{both_ways, cases_order, cases_lt, false_from_ne_true, lt-ltb, le-ltb}
 use Rattle.priority_assign.specs.declared.numbered.Numbered.{Numbered}
+use Rattle.priority_assign.specs.declared.window.Window.{Window}
 use Rattle.priority_assign.specs.Rules.{number_before, number_after}
 use Rattle.priority_assign.specs.Windows.{fits, IsFirstBegin}
-use Rattle.priority_assign.specs.Search.{is_loose, IsNearestLoose, NoneNarrower}
+use Rattle.priority_assign.specs.Search.{is_loose, IsNearestLoose, NoneNarrower, NoneEnding}
 use Rattle.priority_assign.proofs.Room.{Spans, room-fits, no_room-fits}
 
 -- what is known of a window with room where the place is neither the first nor the last in it
@@ -53,10 +55,6 @@ only_three xs p b w loose within full least near fit =
     (λ starts. let e : b ≡ p = omega (arith, starts, spans.from) in inr (inr e))
     (cases_lt b p)
 
--- where no window fits that ends with the place
-abbrev pub NoneEnding : List Numbered → ℕ → ℕ → Type 0
-NoneEnding xs p w = (a : ℕ) → a + w ≡ p + 1 → fits xs p (record { begin = a; width = w }) ≡ false
-
 -- the nearest loose place is the first
 pub first-loose : (xs : List Numbered) (p b w : ℕ) → p ≤ length xs → number_before xs p ≡ number_after xs p + 1 → NoneNarrower xs p w → IsNearestLoose xs p w (Some b) → NoneEnding xs p w → fits xs p (record { begin = b; width = w }) ≡ true → IsFirstBegin xs p w b
 first-loose xs p b w within full least near none fit =
@@ -75,3 +73,14 @@ first-place xs p w a loose within full least near none others fit =
     (λ ends. absurd (both_ways (fits xs p (record { begin = a; width = w })) (none a ends) fit))
     (λ rest. ⊎_elim (λ same. absurd (both_ways (fits xs p (record { begin = a; width = w })) (others a same) fit)) (λ starts. starts) rest)
     (only_three xs p a w loose within full least near fit)
+
+-- an answer by a test
+pub answer_by_test : (t : Bool) (p : ℕ) (r : Option ℕ) (P : Type 0) (Q : ℕ → Type 0) → r ≡ then_some t p → (t ≡ true → Q p) → (t ≡ false → P) → MatchOption r P Q
+answer_by_test true p r P Q e pass fail = subst (λ o. MatchOption o P Q) (sym e) (pass refl)
+answer_by_test false p r P Q e pass fail = subst (λ o. MatchOption o P Q) (sym e) (fail refl)
+
+-- a window that ends before the place is none
+pub ends_before : (xs : List Numbered) (p b w : ℕ) → b + w ≤ p → fits xs p (record { begin = b; width = w }) ≡ false
+ends_before xs p b w le =
+    let v : Window = record { begin = b; width = w } in
+    false_from_ne_true (fits xs p v) (λ fit. let spans = (room-fits xs p v fit).0 in omega (arith, spans.to, le))

@@ -17,3 +17,7 @@ IsNearestLoose xs p w (Some r) =
 -- no window narrower than w fits
 abbrev pub NoneNarrower : List Numbered → ℕ → ℕ → Type 0
 NoneNarrower xs p w = (b v : ℕ) → v < w → fits xs p (record { begin = b; width = v }) ≡ false
+
+-- no window of width w fits that ends with the place
+abbrev pub NoneEnding : List Numbered → ℕ → ℕ → Type 0
+NoneEnding xs p w = (b : ℕ) → b + w ≡ p + 1 → fits xs p (record { begin = b; width = w }) ≡ false

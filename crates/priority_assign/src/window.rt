@@ -1,6 +1,6 @@
 ghost use Rattle.std.specs.Prelude.{◌≡◌, ◌≤◌, ◌<◌, ◌+◌, ℕ, length, false, MatchOption};
 ghost use Rattle.priority_assign.specs.Rules.{number_before, number_after};
-ghost use Rattle.priority_assign.specs.Search.{is_loose, IsNearestLoose, NoneNarrower};
+ghost use Rattle.priority_assign.specs.Search.{is_loose, IsNearestLoose, NoneNarrower, NoneEnding};
 ghost use Rattle.priority_assign.specs.Windows.{has_room, least_window, fits, IsFirstBegin};
 
 use crate::numbered::Numbered;
@@ -87,6 +87,22 @@ fn next_loose(rules: &[Numbered], place: usize, width: usize, loose: Option<usiz
     loose
 }
 
+/// Where the window of this width that ends with `place` begins, if it fits.
+fn ending(rules: &[Numbered], place: usize, width: usize) -> Option<usize>
+    requires few { length rules.now < 16000 }
+    requires within { place ≤ length rules.now }
+    requires wide { 0 < width }
+    requires narrow { width ≤ length rules.now }
+    ensures { MatchOption result (NoneEnding rules.now place width)
+        (λ b. IsFirstBegin rules.now place width b) }
+{
+    if place + 1 < width {
+        return None;
+    }
+    let begin = place + 1 - width;
+    fits(rules, place, Window { begin, width }).then_some(begin)
+}
+
 /// The first place where a window of this width with room for a rule at `place` begins. Where no narrower
 /// window has room, one of this width can have it only where `place` is the last or the first in it, or
 /// from the nearest loose place on.
@@ -107,11 +123,8 @@ fn first_begin(
         ((b : ℕ) → fits rules.now place (record { begin = b; width = width }) ≡ false)
         (λ b. IsFirstBegin rules.now place width b) }
 {
-    if width <= place + 1 {
-        let begin = place + 1 - width;
-        if fits(rules, place, Window { begin, width }) {
-            return Some(begin);
-        }
+    if let Some(begin) = ending(rules, place, width) {
+        return Some(begin);
     }
     if let Some(begin) = loose {
         if fits(rules, place, Window { begin, width }) {
@@ -119,11 +132,7 @@ fn first_begin(
         }
     }
     let begin = place;
-    if fits(rules, place, Window { begin, width }) {
-        Some(begin)
-    } else {
-        None
-    }
+    fits(rules, place, Window { begin, width }).then_some(begin)
 }
 
 /// Of the windows with room the narrowest, and of those as wide the one that begins first. It looks at a
