@@ -1,13 +1,6 @@
-// A library with one function.
+//! Marks of the addresses that leave through a node's egress.
 #![tactic(auto)]
 
-ghost use Rattle.std.specs.Prelude.{◌≡◌};
-ghost use Rattle.egress_marks.specs.Echo.{echo_of};
+mod marks;
 
-// The `ensures` clause is the contract: what `echo` returns is `echo_of` of its argument, a definition
-// in `specs/Echo.antt`, which a caller's clause can cite too.
-pub fn echo(x: usize) -> usize
-    ensures { result ≡ echo_of x }
-{
-    x
-}
+pub use marks::Marks;
