@@ -1,13 +1,14 @@
 -- The first of the windows that has room.
 use Rattle.std.proofs.Common.{◌≡◌, ℕ, ◌+◌, ◌-◌, ◌*◌, ◌<◌, ◌≤◌, List, [], ◌∷◌, ◌++◌, map, length, drop, refl, arith, sym, ap, ◌∙◌, subst, zero, suc, cond, Bool, true, false, Option, Some, None, find, ⊎_elim, ◌&&◌, leb, ltb}
 use Rattle.std.proofs.lemmas.List.{drop_all}
+use Rattle.std.proofs.lemmas.Option.{same_Some}
 use Rattle.std.specs.Prelude.{unwrap_or}
 use Rattle.std.specs.List.{flat_map, range_with_len}
-use Rattle.std.proofs.lemmas.Bool.{cases_eq, and_parts, and_from, le-leb, lt-ltb, leb-true, leb-false, ltb-true}
+use Rattle.std.proofs.lemmas.Bool.{both_ways, cases_lt, cases_eq, and_parts, and_from, le-leb, lt-ltb, leb-true, leb-false, ltb-true}
 use Rattle.priority_assign.specs.declared.numbered.Numbered.{Numbered}
 use Rattle.priority_assign.specs.declared.window.Window.{Window}
 use Rattle.priority_assign.specs.Rules.{first_number, number_before, number_after}
-use Rattle.priority_assign.specs.Windows.{upper, lower, fits, has_room, is_window, of_width, windows, window_of_all, least_window}
+use Rattle.priority_assign.specs.Windows.{upper, lower, fits, has_room, is_window, of_width, windows, window_of_all, least_window, IsLeast}
 
 none_parts : {X : Type 0} (b : Bool) (x : X) (r : Option X) → cond b (Some x) r ≡ None → (b ≡ false) × (r ≡ None)
 none_parts true x r h = cc
@@ -140,3 +141,81 @@ no_room-fits xs p b w spans none =
     let window : is_window xs p v ≡ true =
         and_from (leb b p && ltb p (b + w)) (leb (b + w) (length xs + 1)) (and_from (leb b p) (ltb p (b + w)) (le-leb b p spans.from) (lt-ltb p (b + w) spans.to)) (le-leb (b + w) (length xs + 1) spans.within) in
     leb-false (2 * w) (number_before xs b - number_after xs (b + w - 1) - 1) (subst (λ t. (t && has_room xs v) ≡ false) window none)
+
+-- what is found in a row, and in rows one after another
+record FoundInRow {X : Type 0} (q : X → Bool) (f : ℕ → X) (a : ℕ) (x : X) : Type 0 where
+  at : ℕ
+  is : x ≡ f at
+  before : (j : ℕ) → a ≤ j → j < at → q (f j) ≡ false
+
+found_in_row : {X : Type 0} (q : X → Bool) (f : ℕ → X) (a n : ℕ) (x : X) → find q (map f (range_with_len a n)) ≡ Some x → FoundInRow q f a x
+found_in_row q f a zero x h = cc
+found_in_row q f a (suc n) x h =
+    elim (q (f a)) as (λ t. q (f a) ≡ t → cond t (Some (f a)) (find q (map f (range_with_len (a + 1) n))) ≡ Some x → FoundInRow q f a x) [
+      | true ↦ λ e g. record { at = a; is = cc; before = λ j low high. absurd (omega (arith, low, high)) }
+      | false ↦ λ e g.
+          let rest = found_in_row q f (a + 1) n x g in
+          record {
+            at = rest.at;
+            is = rest.is;
+            before = λ j low high. ⊎_elim (λ same. subst (λ i. q (f i) ≡ false) same e) (λ apart. rest.before j (omega (arith, low, apart)) high) (cases_eq a j);
+          }
+    ] refl h
+
+record FoundInRows {X : Type 0} (q : X → Bool) (f : ℕ → List X) (a : ℕ) (x : X) : Type 0 where
+  at : ℕ
+  is : find q (f at) ≡ Some x
+  before : (j : ℕ) → a ≤ j → j < at → find q (f j) ≡ None
+
+found_in_rows : {X : Type 0} (q : X → Bool) (f : ℕ → List X) (a n : ℕ) (x : X) → find q (flat_map f (range_with_len a n)) ≡ Some x → FoundInRows q f a x
+found_in_rows q f a zero x h = cc
+found_in_rows q f a (suc n) x h =
+    let others = flat_map f (range_with_len (a + 1) n) in
+    elim (find q (f a)) as (λ r. find q (f a) ≡ r → FoundInRows q f a x) [
+      | None ↦ λ e.
+          let rest = found_in_rows q f (a + 1) n x (sym (find-back q (f a) others e) ∙ h) in
+          record {
+            at = rest.at;
+            is = rest.is;
+            before = λ j low high. ⊎_elim (λ same. subst (λ i. find q (f i) ≡ None) same e) (λ apart. rest.before j (omega (arith, low, apart)) high) (cases_eq a j);
+          }
+      | Some y ↦ λ e.
+          let same : y ≡ x = same_Some y x (sym (find-front q (f a) others y e) ∙ h) in
+          record { at = a; is = e ∙ ap Some same; before = λ j low high. absurd (omega (arith, low, high)) }
+    ] refl
+
+found_least : (xs : List Numbered) (p : ℕ) (v : Window) → find (fits xs p) (windows (length xs)) ≡ Some v → IsLeast xs p v
+found_least xs p v h =
+    let n = length xs in
+    let q = fits xs p in
+    let rows = found_in_rows q (of_width n) 1 (n + 1) v h in
+    let row = found_in_row q (λ b. record { begin = b; width = rows.at }) 0 (n + 1) v rows.is in
+    let width : v.width ≡ rows.at = ap (λ (u : Window). u.width) row.is in
+    let begin : v.begin ≡ row.at = ap (λ (u : Window). u.begin) row.is in
+    record {
+      fit = passes q (windows n) v h;
+      narrowest = λ u fit. ⊎_elim
+        (λ narrower.
+          let spans = (room-fits xs p u fit).0 in
+          let none = rows.before u.width (omega (arith, spans.from, spans.to)) (omega (arith, narrower, width)) in
+          absurd (both_ways (q u) (none_in_row q (λ b. record { begin = b; width = u.width }) 0 (n + 1) u.begin (omega arith) (omega (arith, spans.from, spans.to, spans.within)) none) fit))
+        (λ wide. wide)
+        (cases_lt u.width v.width);
+      first = λ u fit same. ⊎_elim
+        (λ earlier.
+          let none = row.before u.begin (omega arith) (omega (arith, earlier, begin)) in
+          absurd (both_ways (q u) (subst (λ w. q (record { begin = u.begin; width = w }) ≡ false) (sym (same ∙ width)) none) fit))
+        (λ later. later)
+        (cases_lt u.begin v.begin);
+    }
+
+pub IsLeast-least_window : (xs : List Numbered) (p : ℕ) → length xs < 16000 → p ≤ length xs → IsLeast xs p (least_window xs p)
+IsLeast-least_window xs p few within =
+    let n = length xs in
+    elim (find (fits xs p) (windows n)) as (λ r. find (fits xs p) (windows n) ≡ r → IsLeast xs p (unwrap_or r (window_of_all n))) [
+      | None ↦ λ e.
+          let row = none_in_rows (fits xs p) (of_width n) 1 (n + 1) (n + 1) (omega arith) (omega arith) e in
+          let none = none_in_row (fits xs p) (λ a. record { begin = a; width = n + 1 }) 0 (n + 1) 0 (omega arith) (omega arith) row in
+          absurd (both_ways (fits xs p (window_of_all n)) none (fits-all xs p few within))
+      | Some v ↦ λ e. found_least xs p v e
+    ] refl

@@ -1,5 +1,5 @@
 -- Windows: consecutive rules, a rule that comes in among them. This project's own.
-use Rattle.std.specs.Prelude.{◌≡◌, ◌<◌, true, false, ℕ, ◌+◌, ◌-◌, ◌*◌, ◌&&◌, nat_le, nat_lt, List, map, length, Bool, find, unwrap_or}
+use Rattle.std.specs.Prelude.{◌≡◌, ◌<◌, ◌≤◌, true, false, ℕ, ◌+◌, ◌-◌, ◌*◌, ◌&&◌, nat_le, nat_lt, List, map, length, Bool, find, unwrap_or}
 use Rattle.std.specs.List.{flat_map, range_with_len}
 use Rattle.priority_assign.specs.declared.numbered.Numbered.{Numbered}
 use Rattle.priority_assign.specs.declared.window.Window.{Window}
@@ -42,3 +42,9 @@ least_window xs p = unwrap_or (find (fits xs p) (windows (length xs))) (window_o
 pub record IsFirstBegin (xs : List Numbered) (p width begin : ℕ) : Type 0 where
   pub fit : fits xs p (record { begin = begin; width = width }) ≡ true
   pub earlier : (b : ℕ) → b < begin → fits xs p (record { begin = b; width = width }) ≡ false
+
+-- it fits, none that fits is narrower, and of those as wide none begins earlier
+pub record IsLeast (xs : List Numbered) (p : ℕ) (v : Window) : Type 0 where
+  pub fit : fits xs p v ≡ true
+  pub narrowest : (u : Window) → fits xs p u ≡ true → v.width ≤ u.width
+  pub first : (u : Window) → fits xs p u ≡ true → u.width ≡ v.width → v.begin ≤ u.begin

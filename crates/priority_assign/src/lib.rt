@@ -8,3 +8,4 @@ mod window;
 
 pub use ladder::Ladder;
 pub use numbered::{Numbered, Placed};
+pub use window::least_window_law;

@@ -1,7 +1,8 @@
-ghost use Rattle.std.specs.Prelude.{◌≡◌, ◌≤◌, ◌<◌, ◌+◌, ℕ, length, false, MatchOption};
+ghost use Rattle.std.specs.Prelude.{◌≡◌, ◌≤◌, ◌<◌, ◌+◌, ℕ, List, length, false, MatchOption};
 ghost use Rattle.priority_assign.specs.Rules.{number_before, number_after};
 ghost use Rattle.priority_assign.specs.Search.{is_loose, IsNearestLoose, NoneNarrower, NoneEnding};
-ghost use Rattle.priority_assign.specs.Windows.{has_room, least_window, fits, IsFirstBegin};
+ghost use Rattle.priority_assign.specs.Windows.{has_room, least_window, fits, IsFirstBegin, IsLeast};
+ghost use Rattle.priority_assign.specs.declared.numbered.Numbered.{Numbered};
 
 use crate::numbered::Numbered;
 
@@ -154,4 +155,11 @@ pub fn least_window(rules: &[Numbered], place: usize) -> Window
         begin: 0,
         width: rules.len() + 1,
     }
+}
+
+/// The law of the least window: while there are fewer than 16,000 rules, some window has room for one more.
+pub fn least_window_law()
+    ensures { (rules : List Numbered) (place : ℕ) → length rules < 16000 → place ≤ length rules
+        → IsLeast rules place (least_window rules place) }
+{
 }
