@@ -1,6 +1,13 @@
+pub mod Addr
+pub mod Ascending
+pub mod AscendingLaws
+pub mod Equality
+pub mod EqualityLaws
 pub mod Judgement
 pub mod PolicyName
 pub mod Prefix
+pub mod Reading
 pub mod Rows
 pub mod RuleOrder
 pub mod Traffic
+pub mod Written

@@ -10,6 +10,7 @@ use Rattle.cl_types.specs.declared.keys.PolicyKind.{PolicyKind}
 use Rattle.cl_types.specs.declared.keys.PolicyKind.TheVariants.{Cluster, Antrea, Kube}
 use Rattle.cl_types.specs.declared.keys.Dir.{Dir}
 use Rattle.cl_types.specs.declared.keys.Dir.TheVariants.{Ingress, Egress}
+use Rattle.cl_types.specs.declared.keys.PodKey.{PodKey}
 use Rattle.cl_types.specs.declared.keys.RuleKey.{RuleKey}
 use Rattle.cl_types.specs.PolicyName.{PolicyName}
 
@@ -24,11 +25,19 @@ abbrev pub dir_place : Dir → ℕ
 dir_place Ingress = 0
 dir_place Egress = 1
 
+-- by the bytes of namespace and name
+abbrev pub pod_order : PodKey → PodKey → Ordering
+pod_order a b = ordering_then (slice_cmp nat_cmp a.namespace b.namespace) (slice_cmp nat_cmp a.name b.name)
+
 -- by kind, then by the bytes of namespace and name
 abbrev pub policy_order : PolicyName → PolicyName → Ordering
 policy_order a b =
     ordering_then (nat_cmp (kind_place a.kind) (kind_place b.kind))
     (ordering_then (slice_cmp nat_cmp a.namespace b.namespace) (slice_cmp nat_cmp a.name b.name))
+
+pub pod_order_total : IsTotalOrder pod_order
+pod_order_total =
+    then_total (on_total (λ (k : PodKey). k.namespace) nat_list_cmp_total) (on_total (λ (k : PodKey). k.name) nat_list_cmp_total)
 
 pub policy_order_total : IsTotalOrder policy_order
 policy_order_total =

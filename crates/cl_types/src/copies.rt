@@ -8,3 +8,12 @@ pub trait Copies: Sized {
     fn copy(&self) -> Result<Self, NoMemory>
         ensures { IfOk result (λ copy. copy ≡ self.now) };
 }
+
+impl<T: Copies> Copies for Option<T> {
+    fn copy(&self) -> Result<Option<T>, NoMemory> {
+        match self {
+            None => Ok(None),
+            Some(x) => Ok(Some(x.copy()?)),
+        }
+    }
+}

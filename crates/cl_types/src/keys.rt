@@ -1,7 +1,7 @@
 ghost use Rattle.std.specs.Prelude.{◌≡◌, IfOk, refl};
 ghost use Rattle.std.specs.Ordering.{as_partial_cmp, eq_by_cmp};
 ghost use Rattle.std.specs.Cmp.{partial_order_from_agreeing_total, partial_equiv_from_equiv, eq_by_cmp_equiv};
-ghost use Rattle.cl_types.specs.RuleOrder.{kind_place, dir_place, policy_order, policy_order_total, rule_order};
+ghost use Rattle.cl_types.specs.RuleOrder.{kind_place, dir_place, pod_order, pod_order_total, policy_order, policy_order_total, rule_order};
 
 use crate::copies::Copies;
 use crate::memory::NoMemory;
@@ -11,10 +11,51 @@ use std::cmp::Ordering;
 use std::marker::Model;
 
 /// A pod's name in its namespace.
-#[derive(Debug, Drop, PartialEq, Eq, PartialOrd, Ord)]
+#[derive(Debug, Drop)]
 pub struct PodKey {
     pub namespace: Text,
     pub name: Text,
+}
+
+/// By the bytes of namespace and name.
+impl Ord for PodKey {
+    ghost cmp = { pod_order };
+
+    ghost total = { pod_order_total };
+
+    ghost matches_partial_cmp = { λ a b. refl };
+
+    ghost matches_eq = { λ a b. refl };
+
+    fn cmp(&self, other: &PodKey) -> Ordering {
+        self.namespace
+            .cmp(&other.namespace)
+            .then(self.name.cmp(&other.name))
+    }
+}
+
+impl PartialOrd for PodKey {
+    ghost partial_cmp = { as_partial_cmp pod_order };
+
+    ghost laws = { partial_order_from_agreeing_total pod_order pod_order_total (λ a b. refl) (λ a b. refl) };
+
+    fn partial_cmp(&self, other: &PodKey) -> Option<Ordering> {
+        Some(self.cmp(other))
+    }
+}
+
+impl PartialEq for PodKey {
+    ghost eq = { eq_by_cmp pod_order };
+
+    ghost laws = { partial_equiv_from_equiv (eq_by_cmp_equiv pod_order_total) };
+
+    fn eq(&self, other: &PodKey) -> bool {
+        self.cmp(other).is_eq()
+    }
+}
+
+impl Eq for PodKey {
+    ghost laws = { eq_by_cmp_equiv pod_order_total };
 }
 
 impl Copies for PodKey {

@@ -1,0 +1,11 @@
+pub mod Answers
+pub mod Causes
+pub mod Files
+pub mod Front
+pub mod Lines
+pub mod Memory
+pub mod Reading
+pub mod Sink
+pub mod Telling
+pub mod Truthful
+pub mod Turns

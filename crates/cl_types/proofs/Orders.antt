@@ -1,0 +1,84 @@
+-- The orders are exact: Equal comes only of equal values.
+use Rattle.std.proofs.Common.{◌≡◌, ℕ, List, [], ◌∷◌, Ordering, refl, sym, ap, ◌∙◌, arith}
+use Rattle.std.specs.declared.cmp.Ordering.TheVariants.{Less, Equal, Greater}
+use Rattle.std.specs.Ordering.{ordering_then, nat_cmp, MatchOrdering}
+use Rattle.std.specs.Cmp.Lexicographic.{slice_cmp}
+use Rattle.std.proofs.lemmas.Cmp.{ranked}
+use Rattle.cl_types.specs.declared.addr.Addr.{Addr}
+use Rattle.cl_types.specs.declared.addr.Addr.TheVariants.{V4, V6}
+use Rattle.cl_types.specs.declared.keys.PolicyKind.{PolicyKind}
+use Rattle.cl_types.specs.declared.keys.PolicyKind.TheVariants.{Cluster, Antrea, Kube}
+use Rattle.cl_types.specs.declared.keys.Dir.{Dir}
+use Rattle.cl_types.specs.declared.keys.Dir.TheVariants.{Ingress, Egress}
+use Rattle.cl_types.specs.declared.keys.RuleKey.{RuleKey}
+use Rattle.cl_types.specs.Addr.{addr_order, width_of, number_of}
+use Rattle.cl_types.specs.PolicyName.{PolicyName}
+use Rattle.cl_types.specs.RuleOrder.{kind_place, dir_place, policy_order, rule_order}
+
+both_equal : (o p : Ordering) → ordering_then o p ≡ Equal → (o ≡ Equal) × (p ≡ Equal)
+both_equal Less p e = cc
+both_equal Equal p e = (refl, e)
+both_equal Greater p e = cc
+
+nat_exact : (m n : ℕ) → nat_cmp m n ≡ Equal → m ≡ n
+nat_exact m n e = ranked m n Equal (sym e)
+
+text_exact : (xs ys : List ℕ) → slice_cmp nat_cmp xs ys ≡ Equal → xs ≡ ys
+text_exact [] [] e = refl
+text_exact [] (y ∷ ys) e = cc
+text_exact (x ∷ xs) [] e = cc
+text_exact (x ∷ xs) (y ∷ ys) e =
+    let parts = both_equal (nat_cmp x y) (slice_cmp nat_cmp xs ys) e in
+    let head = nat_exact x y parts.0 in
+    let rest = text_exact xs ys parts.1 in
+    (λ i. head i ∷ rest i)
+
+kind_exact : (k l : PolicyKind) → kind_place k ≡ kind_place l → k ≡ l
+kind_exact Cluster Cluster e = refl
+kind_exact Cluster Antrea e = absurd (omega arith)
+kind_exact Cluster Kube e = absurd (omega arith)
+kind_exact Antrea Cluster e = absurd (omega arith)
+kind_exact Antrea Antrea e = refl
+kind_exact Antrea Kube e = absurd (omega arith)
+kind_exact Kube Cluster e = absurd (omega arith)
+kind_exact Kube Antrea e = absurd (omega arith)
+kind_exact Kube Kube e = refl
+
+dir_exact : (d e : Dir) → dir_place d ≡ dir_place e → d ≡ e
+dir_exact Ingress Ingress h = refl
+dir_exact Ingress Egress h = absurd (omega arith)
+dir_exact Egress Ingress h = absurd (omega arith)
+dir_exact Egress Egress h = refl
+
+pub policy_order_exact : (a b : PolicyName) → policy_order a b ≡ Equal → a ≡ b
+policy_order_exact a b e =
+    let first = both_equal (nat_cmp (kind_place a.kind) (kind_place b.kind)) (ordering_then (slice_cmp nat_cmp a.namespace b.namespace) (slice_cmp nat_cmp a.name b.name)) e in
+    let texts = both_equal (slice_cmp nat_cmp a.namespace b.namespace) (slice_cmp nat_cmp a.name b.name) first.1 in
+    let kind = kind_exact a.kind b.kind (nat_exact (kind_place a.kind) (kind_place b.kind) first.0) in
+    let namespace = text_exact a.namespace b.namespace texts.0 in
+    let name = text_exact a.name b.name texts.1 in
+    (λ i. record { kind = kind i; namespace = namespace i; name = name i })
+
+pub rule_order_exact : (a b : RuleKey) → rule_order a b ≡ Equal → a ≡ b
+rule_order_exact a b e =
+    let first = both_equal (nat_cmp a.tier b.tier) (ordering_then (nat_cmp a.priority b.priority) (ordering_then (policy_order a.policy b.policy) (ordering_then (nat_cmp (dir_place a.dir) (dir_place b.dir)) (nat_cmp a.index b.index)))) e in
+    let second = both_equal (nat_cmp a.priority b.priority) (ordering_then (policy_order a.policy b.policy) (ordering_then (nat_cmp (dir_place a.dir) (dir_place b.dir)) (nat_cmp a.index b.index))) first.1 in
+    let third = both_equal (policy_order a.policy b.policy) (ordering_then (nat_cmp (dir_place a.dir) (dir_place b.dir)) (nat_cmp a.index b.index)) second.1 in
+    let fourth = both_equal (nat_cmp (dir_place a.dir) (dir_place b.dir)) (nat_cmp a.index b.index) third.1 in
+    let tier = nat_exact a.tier b.tier first.0 in
+    let priority = nat_exact a.priority b.priority second.0 in
+    let policy = policy_order_exact a.policy b.policy third.0 in
+    let dir = dir_exact a.dir b.dir (nat_exact (dir_place a.dir) (dir_place b.dir) fourth.0) in
+    let index = nat_exact a.index b.index fourth.1 in
+    (λ i. record { tier = tier i; priority = priority i; policy = policy i; dir = dir i; index = index i })
+
+same_address : (a b : Addr) → width_of a ≡ width_of b → number_of a ≡ number_of b → a ≡ b
+same_address (V4 m) (V4 n) w e = ap V4 e
+same_address (V4 m) (V6 n) w e = absurd (omega arith)
+same_address (V6 m) (V4 n) w e = absurd (omega arith)
+same_address (V6 m) (V6 n) w e = ap V6 e
+
+pub addr_order_exact : (a b : Addr) → addr_order a b ≡ Equal → a ≡ b
+addr_order_exact a b e =
+    let parts = both_equal (nat_cmp (width_of a) (width_of b)) (nat_cmp (number_of a) (number_of b)) e in
+    same_address a b (nat_exact (width_of a) (width_of b) parts.0) (nat_exact (number_of a) (number_of b) parts.1)

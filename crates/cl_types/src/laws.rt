@@ -1,0 +1,48 @@
+//! Laws of the definitions that the contracts cite. Each function does nothing; its clause is the law.
+
+ghost use Rattle.std.specs.Prelude.{◌≡◌, ◌+◌, ◌^◌, ◌<◌, ◌≤◌, ℕ, List};
+ghost use Rattle.std.specs.declared.cmp.Ordering.TheVariants.{Equal};
+ghost use Rattle.cl_types.specs.declared.addr.Addr.{Addr};
+ghost use Rattle.cl_types.specs.declared.keys.RuleKey.{RuleKey};
+ghost use Rattle.cl_types.specs.declared.keys.PodKey.{PodKey};
+ghost use Rattle.cl_types.specs.Addr.{addr_order, width_of, number_of};
+ghost use Rattle.cl_types.specs.PolicyName.{PolicyName, IsPolicyName, HasNoSlash};
+ghost use Rattle.cl_types.specs.RuleOrder.{policy_order, rule_order};
+ghost use Rattle.cl_types.specs.Reading.{IsAddress, IsPrefix};
+ghost use Rattle.cl_types.specs.Prefix.{Block, IsBlock};
+ghost use Rattle.cl_types.specs.Written.{address_text, prefix_text, policy_text, rule_text, pod_text, HasName};
+
+/// Only equal addresses, policies and rules stand at one place of their order.
+pub fn orders_are_exact()
+    ensures addresses { (a b : Addr) → addr_order a b ≡ Equal → a ≡ b }
+    ensures policies { (a b : PolicyName) → policy_order a b ≡ Equal → a ≡ b }
+    ensures rules { (a b : RuleKey) → rule_order a b ≡ Equal → a ≡ b }
+{
+}
+
+/// A text is a form of one address at most, and of one prefix at most.
+pub fn texts_have_one_reading()
+    ensures addresses { (text : List ℕ) (a b : Addr) → IsAddress text a → IsAddress text b → a ≡ b }
+    ensures prefixes { (text : List ℕ) (p q : Block) → IsPrefix text p → IsPrefix text q → p ≡ q }
+{
+}
+
+/// Different policies have different texts. So have rules that differ in policy, direction or index, and
+/// pods whose namespaces have no `/`.
+pub fn texts_tell_names_apart()
+    ensures policies { (a b : PolicyName) → IsPolicyName a.kind a.namespace a.name
+        → IsPolicyName b.kind b.namespace b.name → policy_text a ≡ policy_text b → a ≡ b }
+    ensures rules { (a b : RuleKey) → HasName a → HasName b → rule_text a ≡ rule_text b
+        → (a.policy ≡ b.policy) × (a.dir ≡ b.dir) × (a.index ≡ b.index) }
+    ensures pods { (a b : PodKey) → HasNoSlash a.namespace → HasNoSlash b.namespace
+        → pod_text a ≡ pod_text b → a ≡ b }
+{
+}
+
+/// What is written of an address or a prefix is read as that address or prefix.
+pub fn written_is_read()
+    ensures addresses { (a : Addr) → number_of a < 2 ^ width_of a → IsAddress (address_text a) a }
+    ensures prefixes { (b : Block) → number_of b.base < 2 ^ width_of b.base → IsBlock b.base b.len
+        → IsPrefix (prefix_text b) b }
+{
+}

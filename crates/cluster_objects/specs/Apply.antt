@@ -1,0 +1,107 @@
+-- What a change does to a cluster (this project's own rules: which node changes are too late, and that
+-- counting pods share no address).
+use Rattle.std.specs.Prelude.{◌≡◌, ℕ, List, [], ◌∷◌, Bool, true, false, not, ◌&&◌, ◌||◌, Option, Some, None, Result, Ok, Err, if◌then◌else◌, find}
+use Rattle.std.specs.declared.cmp.Ordering.{Ordering}
+use Rattle.std.specs.List.{list_any}
+use Rattle.std.specs.Option.{option_map_or}
+use Rattle.std.specs.Ordering.{nat_cmp, is_eq}
+use Rattle.std.specs.Cmp.Lexicographic.{slice_cmp}
+use Rattle.cl_types.specs.declared.addr.Addr.{Addr}
+use Rattle.cl_types.specs.declared.keys.PodKey.{PodKey}
+use Rattle.cl_types.specs.Ascending.{found, put}
+use Rattle.cl_types.specs.Equality.{text_eq, is_same}
+use Rattle.cl_types.specs.RuleOrder.{policy_order, pod_order}
+use Rattle.cluster_objects.specs.declared.change.Applied.{Applied}
+use Rattle.cluster_objects.specs.declared.change.Applied.TheVariants.{Changed, Unchanged}
+use Rattle.cluster_objects.specs.declared.change.Change.{Change}
+use Rattle.cluster_objects.specs.declared.change.Change.TheVariants.{Put}
+use Rattle.cluster_objects.specs.declared.change.ClusterRefusal.{ClusterRefusal}
+use Rattle.cluster_objects.specs.declared.change.ClusterRefusal.TheVariants.{NodesFixed, AddressInUse, NoMemory}
+use Rattle.cluster_objects.specs.declared.change.Object.{Object}
+use Rattle.cluster_objects.specs.declared.change.Object.TheVariants as object
+use Rattle.cluster_objects.specs.declared.node.NodeInfo as node
+use Rattle.cluster_objects.specs.declared.pod.Pod as pod
+use Rattle.cluster_objects.specs.declared.policy.Policy as policy
+use Rattle.cluster_objects.specs.Evaluation.{has_address}
+use Rattle.cluster_objects.specs.Groups.{counts}
+use Rattle.cluster_objects.specs.Objects.{NodeData, PodData, PolicyData}
+use Rattle.cluster_objects.specs.State.{ClusterData}
+
+-- a cluster after a change, and whether the change made a difference
+pub record Outcome : Type 0 where
+  pub cluster : ClusterData
+  pub applied : Applied
+
+-- what stands at a key is one with the new thing
+abbrev pub is_there : {T : Type 0} → (T → T → Bool) → T → Option T → Bool
+is_there same x None = false
+is_there same x (Some y) = same y x
+
+-- ---- nodes
+
+abbrev pub at_node : List ℕ → NodeData → Ordering
+at_node name n = slice_cmp nat_cmp n.name name
+
+abbrev pub put_node : ClusterData → NodeData → Result Outcome ClusterRefusal
+put_node c n =
+    if is_there (is_same node.the_code) n (found (at_node n.name) c.nodes)
+    then Ok (record { cluster = c; applied = Unchanged })
+    else (if c.fixed
+      then Err NodesFixed
+      else Ok (record { cluster = record c { nodes = put (at_node n.name) n c.nodes }; applied = Changed }))
+
+-- ---- pods
+
+abbrev pub at_pod : PodKey → PodData → Ordering
+at_pod key p = pod_order p.key key
+
+-- another counting pod has an address of the pod
+abbrev pub takes_address : PodData → PodData → Bool
+takes_address p other = not (is_eq (pod_order other.key p.key)) && counts other && list_any (λ a. has_address a other) p.addresses
+
+-- the first other counting pod that has an address of a pod that counts
+abbrev pub address_taker : ClusterData → PodData → Option PodData
+address_taker c p = if counts p then find (takes_address p) c.pods else None
+
+abbrev pub fixed_with_pod : ClusterData → PodData → Outcome
+fixed_with_pod c p =
+    if is_there (is_same pod.the_code) p (found (at_pod p.key) c.pods)
+    then record { cluster = record c { fixed = true }; applied = Unchanged }
+    else record { cluster = record c { fixed = true; pods = put (at_pod p.key) p c.pods }; applied = Changed }
+
+abbrev pub put_pod : ClusterData → PodData → Result Outcome ClusterRefusal
+put_pod c p = refused_by (address_taker c p)
+  where
+    refused_by : Option PodData → Result Outcome ClusterRefusal
+    refused_by None = Ok (fixed_with_pod c p)
+    refused_by (Some other) = Err (AddressInUse other.key)
+
+-- ---- policies
+
+abbrev pub at_policy : PolicyData → PolicyData → Ordering
+at_policy p other = policy_order other.key p.key
+
+abbrev pub put_policy : ClusterData → PolicyData → Result Outcome ClusterRefusal
+put_policy c p =
+    if is_there (is_same policy.the_code) p (found (at_policy p) c.policies)
+    then Ok (record { cluster = record c { fixed = true }; applied = Unchanged })
+    else Ok (record { cluster = record c { fixed = true; policies = put (at_policy p) p c.policies }; applied = Changed })
+
+-- ---- changes
+
+-- the cluster after a change, or why the change is refused
+abbrev pub apply_object : ClusterData → Object → Result Outcome ClusterRefusal
+apply_object c (object.Node n) = put_node c n
+apply_object c (object.Pod p) = put_pod c p
+apply_object c (object.Policy p) = put_policy c p
+
+abbrev pub apply : ClusterData → Change → Result Outcome ClusterRefusal
+apply c (Put o) = apply_object c o
+
+-- What a call answered is what the change does; a refusal leaves the cluster as it was, and so does want of
+-- memory.
+abbrev pub Follows : Result Outcome ClusterRefusal → ClusterData → Result Applied ClusterRefusal → ClusterData → Type 0
+Follows outcome old (Ok applied) new = outcome ≡ Ok (record { cluster = new; applied = applied })
+Follows outcome old (Err NoMemory) new = new ≡ old
+Follows outcome old (Err NodesFixed) new = (outcome ≡ Err NodesFixed) × (new ≡ old)
+Follows outcome old (Err (AddressInUse key)) new = (outcome ≡ Err (AddressInUse key)) × (new ≡ old)

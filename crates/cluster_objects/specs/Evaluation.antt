@@ -1,0 +1,180 @@
+-- The verdict of the policies for a pod of a node (Kubernetes NetworkPolicy v1, and Antrea's tiers, with
+-- Baseline after the Kubernetes policies).
+use Rattle.std.specs.Prelude.{ℕ, List, [], ◌∷◌, ◌++◌, map, Bool, true, false, not, ◌&&◌, ◌||◌, ◌==◌, nat_le, filter, Option, Some, None, if◌then◌else◌, find}
+use Rattle.std.specs.List.{list_all, list_any, flat_map}
+use Rattle.std.specs.Option.{option_map_or}
+use Rattle.std.specs.Ordering.{is_gt}
+use Rattle.cl_types.specs.declared.addr.Addr.{Addr}
+use Rattle.cl_types.specs.declared.keys.Dir.TheVariants.{Ingress, Egress}
+use Rattle.cl_types.specs.declared.keys.Dir.{Dir}
+use Rattle.cl_types.specs.declared.keys.PolicyKind.{PolicyKind}
+use Rattle.cl_types.specs.declared.keys.PolicyKind.TheVariants.{Cluster, Antrea, Kube}
+use Rattle.cl_types.specs.declared.traffic.Action.{Action}
+use Rattle.cl_types.specs.declared.traffic.Action.TheVariants as action
+use Rattle.cl_types.specs.declared.traffic.Verdict.{Verdict}
+use Rattle.cl_types.specs.declared.traffic.Verdict.TheVariants as verdict
+use Rattle.cl_types.specs.declared.traffic.NamedPort.{NamedPort}
+use Rattle.cl_types.specs.declared.traffic.PortName.{PortName}
+use Rattle.cl_types.specs.declared.traffic.Question.{Question}
+use Rattle.cl_types.specs.Equality.{text_eq, addr_eq, dir_eq, proto_eq}
+use Rattle.cl_types.specs.Judgement.{Judgement, by_rule, by_isolation, by_default}
+use Rattle.cl_types.specs.Prefix.{Block as Prefix, holds}
+use Rattle.cl_types.specs.RuleOrder.{rule_order}
+use Rattle.cl_types.specs.Traffic.{PortRange}
+use Rattle.label_select.specs.Group.{Group}
+use Rattle.cluster_objects.specs.declared.policy.Block.{Block}
+use Rattle.cluster_objects.specs.declared.policy.Peer.{Peer}
+use Rattle.cluster_objects.specs.declared.policy.Peer.TheVariants as peer
+use Rattle.cluster_objects.specs.declared.policy.Rule.{Rule}
+use Rattle.cluster_objects.specs.Objects.{PodData, PolicyData, isolates}
+use Rattle.cluster_objects.specs.Groups.{counts, has}
+use Rattle.cluster_objects.specs.State.{ClusterData}
+
+-- ---- who is meant
+
+abbrev pub has_address : Addr → PodData → Bool
+has_address a p = list_any (λ b. addr_eq b a) p.addresses
+
+-- a block has the addresses in it that are in no except
+abbrev pub block_has : Block → Addr → Bool
+block_has b a = holds b.cidr a && not (list_any (λ e. holds e a) b.excepts)
+
+-- some pod of the group has the address
+abbrev pub group_has_address : ClusterData → Group → Addr → Bool
+group_has_address c g a = list_any (λ p. has c g p && has_address a p) c.pods
+
+abbrev pub peer_has : ClusterData → Addr → Peer → Bool
+peer_has c a (peer.Group g) = group_has_address c g a
+peer_has c a (peer.Block b) = block_has b a
+peer_has c a peer.Never = false
+
+-- a rule without peers has every peer
+abbrev pub peers_have : ClusterData → Addr → Option (List Peer) → Bool
+peers_have c a None = true
+peers_have c a (Some peers) = list_any (peer_has c a) peers
+
+-- ---- which traffic is meant
+
+-- the protocol, and a port in the range
+abbrev pub service_has : Question → PortRange → Bool
+service_has q s = proto_eq s.proto q.proto && nat_le s.lo q.port && nat_le q.port s.hi
+
+-- a pod's port has this name and protocol, and the question's number
+abbrev pub is_port : Question → PortName → NamedPort → Bool
+is_port q name port = text_eq port.name name.name && proto_eq port.proto name.proto && (port.port == q.port)
+
+-- a destination defines the name for the question's protocol and port
+abbrev pub defines : Question → PortName → PodData → Bool
+defines q name p = proto_eq name.proto q.proto && list_any (is_port q name) p.ports
+
+-- a group peer of the rule has the pod; a rule without peers has every pod
+abbrev pub peer_is_pod : ClusterData → PodData → Peer → Bool
+peer_is_pod c p (peer.Group g) = has c g p
+peer_is_pod c p (peer.Block b) = false
+peer_is_pod c p peer.Never = false
+
+abbrev pub peers_have_pod : ClusterData → PodData → Option (List Peer) → Bool
+peers_have_pod c p None = counts p
+peers_have_pod c p (Some peers) = list_any (peer_is_pod c p) peers
+
+-- the destination's port has the name: on ingress the pod's own, and on egress that of a counting pod
+-- with the peer's address that the rule has for a peer
+abbrev pub name_has : ClusterData → Rule → PodData → Question → PortName → Bool
+name_has c r p q name = has_at q.dir
+  where
+    has_at : Dir → Bool
+    has_at Ingress = defines q name p
+    has_at Egress = list_any (λ d. has_address q.peer d && peers_have_pod c d r.peers && defines q name d) c.pods
+
+-- a rule without services has all traffic
+abbrev pub services_have : ClusterData → Rule → PodData → Question → Option (List PortRange) → Bool
+services_have c r p q None = true
+services_have c r p q (Some services) = list_any (service_has q) services || list_any (name_has c r p q) r.named
+
+-- ---- which rules are meant
+
+-- some applied group of the policy has the pod
+abbrev pub applies : ClusterData → PolicyData → PodData → Bool
+applies c policy p = list_any (λ g. has c g p) policy.applied
+
+-- a rule of a policy has the question of a pod
+abbrev pub rule_has : ClusterData → PolicyData → Rule → PodData → Question → Bool
+rule_has c policy r p q =
+    dir_eq r.key.dir q.dir && applies c policy p && peers_have c q.peer r.peers && services_have c r p q r.services
+
+abbrev pub is_kube : PolicyKind → Bool
+is_kube Cluster = false
+is_kube Antrea = false
+is_kube Kube = true
+
+-- the stages in which rules are looked at: native rules, Kubernetes rules, Baseline rules
+pub data Stage : Type 0 where
+  native : Stage
+  kubernetes : Stage
+  baseline : Stage
+
+-- the tier of Baseline is 253
+abbrev pub in_stage : Stage → PolicyData → Rule → Bool
+in_stage native policy r = not (is_kube policy.key.kind) && not (r.key.tier == 253)
+in_stage kubernetes policy r = is_kube policy.key.kind
+in_stage baseline policy r = not (is_kube policy.key.kind) && (r.key.tier == 253)
+
+-- the rules of a stage that have the question of the pod
+abbrev pub rules_with : ClusterData → PodData → Question → Stage → List Rule
+rules_with c p q stage = flat_map (λ policy. filter (λ r. in_stage stage policy r && rule_has c policy r p q) policy.rules) c.policies
+
+-- of two rules the one that is looked at first
+abbrev pub earlier : Rule → Option Rule → Rule
+earlier r None = r
+earlier r (Some s) = if is_gt (rule_order r.key s.key) then s else r
+
+-- the first of some rules in the rule order
+abbrev pub first : List Rule → Option Rule
+first [] = None
+first (r ∷ rs) = Some (earlier r (first rs))
+
+-- ---- the verdict
+
+-- a Kubernetes policy with the direction applies to the pod
+abbrev pub is_isolated : ClusterData → PodData → Dir → Bool
+is_isolated c p dir = list_any (λ policy. is_kube policy.key.kind && isolates policy dir && applies c policy p) c.policies
+
+abbrev pub judged : Verdict → Rule → Judgement
+judged v r = record { verdict = v; by = by_rule r.key }
+
+abbrev pub allowed_by_default : Judgement
+allowed_by_default = record { verdict = verdict.Allow; by = by_default }
+
+-- what a rule decides, or else what is decided without it: Pass leaves the decision
+abbrev pub decided : Rule → Action → Judgement → Judgement
+decided r action.Allow other = judged verdict.Allow r
+decided r action.Drop other = judged verdict.Drop r
+decided r action.Reject other = judged verdict.Reject r
+decided r action.Pass other = other
+
+-- the first rule, where there is one, decides
+abbrev pub decided_first : Option Rule → Judgement → Judgement
+decided_first None other = other
+decided_first (Some r) other = decided r r.action other
+
+-- of an isolated pod: what a Kubernetes rule allows is allowed, and nothing else
+abbrev pub allowed_first : Option Rule → Judgement
+allowed_first None = record { verdict = verdict.Drop; by = by_isolation }
+allowed_first (Some r) = judged verdict.Allow r
+
+-- First the native rules outside Baseline. Where none of them decides: the Kubernetes rules of an
+-- isolated pod, and of any other pod the Baseline rules, and at last everything is allowed.
+abbrev pub side_of : ClusterData → PodData → Question → Judgement
+side_of c p q =
+    decided_first (first (rules_with c p q native))
+    (if is_isolated c p q.dir
+     then allowed_first (first (rules_with c p q kubernetes))
+     else decided_first (first (rules_with c p q baseline)) allowed_by_default)
+
+-- the counting pod on the node that has the address
+abbrev pub pod_on : ClusterData → List ℕ → Addr → Option PodData
+pod_on c node a = find (λ p. counts p && text_eq p.node node && has_address a p) c.pods
+
+-- the policies' verdict on one side of some traffic; an address of no counting pod of the node is allowed
+abbrev pub side : ClusterData → List ℕ → Question → Judgement
+side c node q = option_map_or (λ p. side_of c p q) (pod_on c node q.own) allowed_by_default

@@ -1,0 +1,5 @@
+pub mod Apply
+pub mod Evaluation
+pub mod Groups
+pub mod Objects
+pub mod State

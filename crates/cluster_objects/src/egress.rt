@@ -1,0 +1,21 @@
+use cl_types::{Addr, Keyed, Text};
+use label_select::GroupKey;
+
+/// An Egress of Antrea: traffic of the group's pods out of the cluster leaves with `address` by `node`.
+#[derive(Debug, Drop)]
+pub struct EgressObj {
+    pub name: Text,
+    pub address: Addr,
+    pub node: Text,
+    pub applied: GroupKey,
+}
+
+impl Keyed for EgressObj {
+    type Key = Text;
+
+    ghost key = { λ e. e.name };
+
+    fn key(&self) -> &Text {
+        &self.name
+    }
+}

@@ -1,0 +1,126 @@
+ghost use Rattle.std.specs.Prelude.{◌≡◌, ◌&&◌, IfOk, IsTrue, ◌↔◌, find, option_copied, None, if◌then◌else◌};
+ghost use Rattle.std.specs.List.{list_any};
+ghost use Rattle.cluster_objects.specs.Apply.{takes_address};
+ghost use Rattle.cluster_objects.specs.Evaluation.{has_address};
+ghost use Rattle.cluster_objects.specs.Groups.{counts};
+
+use cl_types::{Addr, Copies, Keyed, List, NamedPort, NoMemory, PodKey, Same, Text};
+use label_select::Labels;
+use std::marker::Model;
+
+/// A pod. It has at most one address of each family, the IPv4 one first, and its named ports ascend by name
+/// and protocol, without a repeat. `node` is empty where the pod has none; `ended` is whether its phase is
+/// Succeeded or Failed.
+#[derive(Debug, Drop)]
+pub struct Pod {
+    pub key: PodKey,
+    pub node: Text,
+    pub addresses: List<Addr>,
+    pub host: bool,
+    pub ended: bool,
+    pub labels: Labels,
+    pub ports: List<NamedPort>,
+}
+
+impl Model for Pod {
+    ghost use Rattle.cluster_objects.specs.Objects.{PodData, IsPod};
+
+    ghost Value = { PodData };
+
+    ghost view = { λ p. record { key = p.key; node = p.node; addresses = p.addresses; host = p.host; ended = p.ended; labels = p.labels; ports = p.ports } };
+
+    ghost invariant = { λ p. IsPod p.addresses p.ports };
+}
+
+impl Keyed for Pod {
+    type Key = PodKey;
+
+    ghost key = { λ p. p.key };
+
+    fn key(&self) -> &PodKey {
+        &self.key
+    }
+}
+
+impl Copies for Pod {
+    fn copy(&self) -> Result<Pod, NoMemory> {
+        Ok(Pod {
+            key: self.key.copy()?,
+            node: self.node.copy()?,
+            addresses: self.addresses.copy()?,
+            host: self.host,
+            ended: self.ended,
+            labels: self.labels.copy()?,
+            ports: self.ports.copy()?,
+        })
+    }
+}
+
+impl Same for Pod {
+    fn same(&self, other: &Pod) -> bool {
+        self.key.same(&other.key)
+            && self.node.same(&other.node)
+            && self.addresses.same(&other.addresses)
+            && self.host == other.host
+            && self.ended == other.ended
+            && self.labels.same(&other.labels)
+            && self.ports.same(&other.ports)
+    }
+}
+
+impl Pod {
+    /// Whether the pod counts: it has an address, isn't on the host's network and hasn't ended.
+    pub fn counts(&self) -> bool
+        ensures { result ≡ counts self.now }
+    {
+        !self.addresses.as_slice().is_empty() && !self.host && !self.ended
+    }
+
+    /// Whether the address is one of the pod's.
+    pub fn has_address(&self, a: Addr) -> bool
+        ensures { result ≡ has_address a self.now }
+    {
+        self.addresses.as_slice().iter().any(|b| b.is(a))
+    }
+
+    // Whether the other pod has an address of this one.
+    fn meets(&self, other: &Pod) -> bool
+        ensures { result ≡ list_any (λ a. has_address a other.now) self.now.addresses }
+    {
+        self.addresses.as_slice().iter().any(|a| other.has_address(*a))
+    }
+
+    // Whether another pod counts and has an address of this one.
+    fn is_taken_by(&self, other: &Pod) -> bool
+        ensures { result ≡ takes_address self.now other.now }
+    {
+        !other.key.cmp(&self.key).is_eq() && other.counts() && self.meets(other)
+    }
+}
+
+/// The first of the pods that counts and has an address of the pod, which counts too.
+pub(crate) fn address_taker<'a>(pods: &'a [Pod], pod: &Pod) -> Option<&'a Pod>
+    ensures { option_copied result ≡ (if counts pod.now then find (takes_address pod.now) pods.now else None) }
+{
+    if !pod.counts() {
+        return None;
+    }
+    for other in pods {
+        if pod.is_taken_by(other) {
+            return Some(other);
+        }
+    }
+    None
+}
+
+/// The first of the pods that counts and has the address.
+pub(crate) fn counting_pod_at(pods: &[Pod], a: Addr) -> Option<&Pod>
+    ensures { option_copied result ≡ find (λ p. counts p && has_address a p) pods.now }
+{
+    for pod in pods {
+        if pod.counts() && pod.has_address(a) {
+            return Some(pod);
+        }
+    }
+    None
+}

@@ -1,0 +1,3 @@
+pub mod CanonicalNeeds
+pub mod SetLabels
+pub mod SortedSets

@@ -1,0 +1,9 @@
+//! The plain evaluator: the policies' verdict, found by looking at every rule.
+#![tactic(auto)]
+
+mod peers;
+mod rules;
+mod services;
+mod side;
+
+pub use side::judge;

@@ -1,0 +1,140 @@
+ghost use Rattle.std.specs.Prelude.{◌≡◌, ◌++◌, ◌&&◌, List, Some, filter, option_copied};
+ghost use Rattle.cluster_objects.specs.declared.policy.Rule.{Rule};
+ghost use Rattle.cluster_objects.specs.Evaluation.{is_kube, applies, rule_has, earlier, first, in_stage, rules_with, is_isolated};
+ghost use Rattle.cluster_objects.specs.Objects.{isolates};
+ghost use Rattle.policy_order.specs.Stages.{stage_of};
+
+use crate::peers::peers_have;
+use crate::services::services_have;
+use cl_types::{Dir, PolicyKind, Question, rule_cmp};
+use cluster_objects::{Cluster, Pod, Policy, Rule};
+
+/// The stages in which rules are looked at.
+#[derive(Clone, Copy)]
+pub(crate) enum Stage {
+    Native,
+    Kubernetes,
+    Baseline,
+}
+
+const BASELINE_TIER: u16 = 253;
+
+fn is_kube(kind: PolicyKind) -> bool
+    ensures { result ≡ is_kube kind }
+{
+    match kind {
+        PolicyKind::Cluster => false,
+        PolicyKind::Antrea => false,
+        PolicyKind::Kube => true,
+    }
+}
+
+fn in_stage(stage: Stage, policy: &Policy, rule: &Rule) -> bool
+    ensures { result ≡ in_stage (stage_of stage) policy.now rule.now }
+{
+    match stage {
+        Stage::Native => !is_kube(policy.key.kind) && rule.key.tier != BASELINE_TIER,
+        Stage::Kubernetes => is_kube(policy.key.kind),
+        Stage::Baseline => !is_kube(policy.key.kind) && rule.key.tier == BASELINE_TIER,
+    }
+}
+
+fn applies(c: &Cluster, policy: &Policy, pod: &Pod) -> bool
+    ensures { result ≡ applies c.now policy.now pod.now }
+{
+    policy
+        .applied
+        .as_slice()
+        .iter()
+        .any(|group| c.in_group(group, pod))
+}
+
+fn rule_has(c: &Cluster, policy: &Policy, rule: &Rule, pod: &Pod, q: &Question) -> bool
+    ensures { result ≡ rule_has c.now policy.now rule.now pod.now q.now }
+{
+    rule.key.dir.is(q.dir)
+        && applies(c, policy, pod)
+        && peers_have(c, q.peer, &rule.peers)
+        && services_have(c, rule, pod, q)
+}
+
+// Of two rules the one that is looked at first.
+fn earlier<'c>(rule: &'c Rule, other: Option<&'c Rule>) -> &'c Rule
+    ensures { result.now ≡ earlier rule.now (option_copied other.entry) }
+{
+    match other {
+        Some(other) if rule_cmp(&rule.key, &other.key).is_gt() => other,
+        _ => rule,
+    }
+}
+
+// The first of the policy's rules of the stage that have the question, and of those after them.
+fn first_of_policy<'c>(
+    c: &Cluster,
+    policy: &'c Policy,
+    pod: &Pod,
+    q: &Question,
+    stage: Stage,
+    after: Option<&'c Rule>,
+) -> Option<&'c Rule>
+    ensures { (later : List Rule) → option_copied after.entry ≡ first later
+        → option_copied result ≡ first (filter (λ r. in_stage (stage_of stage) policy.now r && rule_has c.now policy.now r pod.now q.now) policy.now.rules ++ later) }
+{
+    let rules = policy.rules.as_slice();
+    let mut found = after;
+    for i in (0..rules.len()).rev() {
+        let rule = &rules[i];
+        if is_wanted(c, policy, rule, pod, q, stage) {
+            found = Some(earlier(rule, found));
+        }
+    }
+    found
+}
+
+fn is_wanted(
+    c: &Cluster,
+    policy: &Policy,
+    rule: &Rule,
+    pod: &Pod,
+    q: &Question,
+    stage: Stage,
+) -> bool
+    ensures { result ≡ (in_stage (stage_of stage) policy.now rule.now && rule_has c.now policy.now rule.now pod.now q.now) }
+{
+    in_stage(stage, policy, rule) && rule_has(c, policy, rule, pod, q)
+}
+
+/// The first of the rules of the stage that have the question of the pod.
+pub(crate) fn first_rule<'c>(
+    c: &'c Cluster,
+    pod: &Pod,
+    q: &Question,
+    stage: Stage,
+) -> Option<&'c Rule>
+    ensures { option_copied result ≡ first (rules_with c.now pod.now q.now (stage_of stage)) }
+{
+    let policies = c.policies().as_slice();
+    let mut found = None;
+    for i in (0..policies.len()).rev() {
+        found = first_of_policy(c, &policies[i], pod, q, stage, found);
+    }
+    found
+}
+
+fn isolates(policy: &Policy, dir: Dir) -> bool
+    ensures { result ≡ isolates policy.now dir }
+{
+    match dir {
+        Dir::Ingress => policy.isolates_in,
+        Dir::Egress => policy.isolates_out,
+    }
+}
+
+/// Whether a Kubernetes policy isolates the pod in the direction.
+pub(crate) fn is_isolated(c: &Cluster, pod: &Pod, dir: Dir) -> bool
+    ensures { result ≡ is_isolated c.now pod.now dir }
+{
+    c.policies().as_slice().iter().any(|policy| is_kube(policy.key.kind)
+        && isolates(policy, dir)
+        && applies(c, policy, pod))
+}
