@@ -120,3 +120,6 @@ fn free_places(places: &mut Vec<Option<Addr>>, a: Addr)
         *place = given_back(*place, a);
     }
 }
+
+#[cfg(test)]
+mod tests;

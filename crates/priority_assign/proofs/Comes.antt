@@ -22,6 +22,7 @@ use Rattle.priority_assign.proofs.Even.{keys-evenly, evenly-append, same_from_ch
 use Rattle.priority_assign.proofs.Room.{Spans}
 
 pub place-le : (xs : List Numbered) (k : RuleKey) → place_of xs k ≤ length xs
+unfolding is_before is_rule
 place-le xs k = prefix_len-le-length (is_before k) xs
 
 -- ys is xs with k at its place, whatever the numbers
@@ -45,9 +46,11 @@ none_of_map f None h = refl
 none_of_map f (Some x) h = cc
 
 place-keys : (xs : List Numbered) (k : RuleKey) → prefix_len (λ q. is_lt (rule_order q k)) (keys xs) ≡ place_of xs k
+unfolding is_before is_rule
 place-keys xs k = prefix_len-map (λ x. x.key) (λ q. is_lt (rule_order q k)) xs
 
 pub ordered-ComesIn : (xs : List Numbered) (k : RuleKey) (ys : List Numbered) → IsLadder xs → number_of xs k ≡ None → ComesIn xs k ys → IsStrictlySortedBy rule_order (keys ys)
+unfolding is_before is_rule
 ordered-ComesIn xs k ys ladder absent c =
     let absent_key = find-map (λ x. x.key) (λ q. is_eq (rule_order q k)) xs (none_of_map (λ x. x.number) (find (is_rule k) xs) absent) in
     let sorted = IsStrictlySortedBy-insert rule_order_total k (keys xs) ladder.ordered absent_key in
@@ -64,6 +67,7 @@ length-ComesIn xs k ys c =
     omega (arith, in_keys, more, length-map xs (λ x. x.key), length-map ys (λ x. x.key))
 
 pub number_of-ComesIn : (xs : List Numbered) (k : RuleKey) (ys : List Numbered) (c : ComesIn xs k ys) → number_of ys k ≡ Some c.number
+unfolding is_before is_rule
 number_of-ComesIn xs k ys c =
     let before = all_before_place rule_order k (keys xs) in
     let front_before : AllByRecursion (λ q. rule_order q k ≡ Less) (keys c.front) =

@@ -68,6 +68,7 @@ falls-spread xs k v f fit =
     FallsBetween-append 64001 99 l (take v.begin xs ++ evenly l u w w ks) (drop e xs) joined back
 
 pub ComesIn-inserted : (xs : List Numbered) (k : RuleKey) → length xs < 16000 → ComesIn xs k (inserted xs k)
+unfolding inserted
 ComesIn-inserted xs k few =
     let v = least_window xs (place_of xs k) in
     let fit = fits-least xs (place_of xs k) few (place-le xs k) in
@@ -77,6 +78,7 @@ ComesIn-inserted xs k few =
     ]
 
 pub falls-inserted : (xs : List Numbered) (k : RuleKey) → FallsBetween 64001 99 xs → length xs < 16000 → FallsBetween 64001 99 (inserted xs k)
+unfolding inserted
 falls-inserted xs k f few =
     let v = least_window xs (place_of xs k) in
     let fit = fits-least xs (place_of xs k) few (place-le xs k) in
@@ -178,7 +180,7 @@ collected-spread xs k v ys some all fit is first second =
     second ∙ ap (λ zs. zs ++ changes (slice_range xs (place_of xs k) (v.begin + v.width - 1)) (evenly (lower xs v) (upper xs v) v.width (v.begin + v.width - 1 - place_of xs k) (keys (slice_range xs (place_of xs k) (v.begin + v.width - 1))))) first ∙ sym (relabelled-spread xs k v fit) ∙ ap (λ zs. changes xs (remove zs (place_of xs k))) (sym is)
 
 pub relabelled-wide : (xs : List Numbered) (k : RuleKey) → 2 ≤ gap xs k → relabelled xs k ≡ []
-unfolding ComesIn-halfway
+unfolding ComesIn-halfway inserted relabelled
 relabelled-wide xs k wide =
     let n = place_of xs k in
     let others = remove-ComesIn xs k (halfway xs k) (ComesIn-halfway xs k) ∙ take-append-drop n xs in
@@ -186,6 +188,7 @@ relabelled-wide xs k wide =
 
 -- other numbers change exactly where the neighbours' numbers are next to each other
 pub relabelled-gap : (xs : List Numbered) (k : RuleKey) (zs : List Numbered) → IsLadder xs → length xs < 16000 → zs ≡ relabelled xs k → (zs ≢ []) ↔ (gap xs k ≡ 1)
+unfolding inserted relabelled
 relabelled-gap xs k zs ladder few is =
     let positive = number_after-below xs (place_of xs k) ladder.falling in
     let c = ComesIn-inserted xs k few in

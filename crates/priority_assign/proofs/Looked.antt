@@ -9,11 +9,12 @@ use Rattle.std.proofs.lemmas.Bool.{cases_lt}
 use Rattle.cl_types.specs.declared.keys.RuleKey.{RuleKey}
 use Rattle.cl_types.specs.RuleOrder.{rule_order, rule_order_total}
 use Rattle.priority_assign.specs.declared.numbered.Numbered.{Numbered}
-use Rattle.priority_assign.specs.Rules.{keys, place_of, number_of, without, is_rule, IsLadder, last_number}
+use Rattle.priority_assign.specs.Rules.{keys, place_of, number_of, without, is_rule, is_before, IsLadder, last_number}
 use Rattle.priority_assign.proofs.Ordered.{find-at_place, filter-at_place, IsStrictlySortedBy-without}
 use Rattle.priority_assign.proofs.Falling.{FallsBetween-append, FallsBetween-back, FallsBetween-front, FallsBetween-below, first_number-below}
 
 pub number_of-at_place : (xs : List Numbered) (k : RuleKey) → IsStrictlySortedBy rule_order (keys xs) → number_of xs k ≡ option_map (λ x. x.number) (option_and_then (λ x. cond (is_rule k x) (Some x) None) (slice_get xs (place_of xs k)))
+unfolding is_before is_rule
 number_of-at_place xs k sorted = ap (option_map (λ x. x.number)) (find-at_place (λ x. x.key) rule_order_total k xs sorted)
 
 abbrev if_rule : RuleKey → Numbered → Option Numbered
@@ -38,10 +39,12 @@ found None h e = cc
 found (Some x) h e = cc
 
 pub without-at_place : (xs : List Numbered) (k : RuleKey) → IsStrictlySortedBy rule_order (keys xs) → IsSome (number_of xs k) → without xs k ≡ remove xs (place_of xs k)
+unfolding is_before is_rule
 without-at_place xs k sorted there =
     filter-at_place (λ x. x.key) rule_order_total k xs sorted (found (find (is_rule k) xs) there)
 
 pub place_of-there : (xs : List Numbered) (k : RuleKey) → IsStrictlySortedBy rule_order (keys xs) → IsSome (number_of xs k) → place_of xs k < length xs
+unfolding is_before is_rule
 place_of-there xs k sorted there =
     ⊎_elim (λ within. within)
     (λ past.

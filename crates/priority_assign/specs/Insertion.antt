@@ -38,7 +38,7 @@ halfway xs k =
     insert xs (place_of xs k) (record { key = k; number = (number_after xs (place_of xs k) + number_before xs (place_of xs k)) / 2 })
 
 -- the rules once k came in
-abbrev pub inserted : List Numbered → RuleKey → List Numbered
+unfoldable pub inserted : List Numbered → RuleKey → List Numbered
 inserted xs k = if nat_le 2 (gap xs k) then halfway xs k else spread xs k (least_window xs (place_of xs k))
 
 -- rules that have another number now, of which xs are the rules before and ys the same rules now
@@ -48,5 +48,5 @@ changes (x ∷ xs) [] = []
 changes (x ∷ xs) (y ∷ ys) = if x.number == y.number then changes xs ys else (y ∷ changes xs ys)
 
 -- the rules other than k whose number changed
-abbrev pub relabelled : List Numbered → RuleKey → List Numbered
+unfoldable pub relabelled : List Numbered → RuleKey → List Numbered
 relabelled xs k = changes xs (remove (inserted xs k) (place_of xs k))

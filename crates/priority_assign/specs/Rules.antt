@@ -14,10 +14,10 @@ abbrev pub keys : List Numbered → List RuleKey
 keys xs = map (λ x. x.key) xs
 
 -- the rule is looked at before k
-abbrev pub is_before : RuleKey → Numbered → Bool
+unfoldable pub is_before : RuleKey → Numbered → Bool
 is_before k x = is_lt (rule_order x.key k)
 
-abbrev pub is_rule : RuleKey → Numbered → Bool
+unfoldable pub is_rule : RuleKey → Numbered → Bool
 is_rule k x = is_eq (rule_order x.key k)
 
 -- how many rules stand before k, or would

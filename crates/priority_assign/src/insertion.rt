@@ -174,6 +174,7 @@ fn insert_spread(
 }
 
 /// Lets a rule in.
+#[tactic(auto, unfolding(crate::specs::Insertion::inserted, crate::specs::Insertion::relabelled))]
 pub fn insert_rule(rules: &mut Vec<Numbered>, key: RuleKey) -> Result<Placed, NoMemory>
     requires ladder { IsLadder rules.old.items }
     requires absent { IsNone (number_of rules.old.items key) }

@@ -84,3 +84,6 @@ impl Copies for Ladder {
         })
     }
 }
+
+#[cfg(test)]
+mod tests;

@@ -24,6 +24,7 @@ insert_spread-requires-clause-fit c =
     subst (λ v. fits xs n v ≡ true) (sym least) (fits-least xs n c.requires.few within)
 
 pub returns-then-upper-lower-ge2-clause-relabelled : goal.returns-then-upper-lower-ge2-clause-relabelled
+unfolding relabelled
 returns-then-upper-lower-ge2-clause-relabelled c =
     let xs = c.args.rules.now.items in
     let k = c.args.key in

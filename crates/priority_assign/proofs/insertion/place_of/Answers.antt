@@ -7,6 +7,7 @@ use Rattle.priority_assign.proofs.Ordered.{IsPartitionedBy-is_lt, IsPartitionedB
 use Rattle.priority_assign.proofs.insertion.place_of.Goals as goal
 
 pub returns-clause-place : goal.returns-clause-place
+unfolding is_before
 returns-clause-place c =
     let rules = c.args.rules.now in
     let k = c.args.k.now in
