@@ -1,14 +1,15 @@
 -- How often an address stands at places, before and after a mark is taken or given back.
-use Rattle.std.proofs.Common.{◌≡◌, ℕ, ◌+◌, ◌-◌, ◌<◌, ◌≤◌, List, [], ◌∷◌, length, set, get_or, refl, arith, sym, ap, ◌∙◌, cond, Bool, true, false, not, Option, Some, None, is_some, is_none, count_by, position, IsSome, IsNone, ltb}
+use Rattle.std.proofs.Common.{◌≡◌, ℕ, ◌+◌, ◌-◌, ◌<◌, ◌≤◌, List, [], ◌∷◌, length, set, get_or, refl, arith, sym, ap, ◌∙◌, subst, zero, suc, cond, Bool, true, false, not, Option, Some, None, is_some, is_none, count_by, replicate, position, IsSome, IsNone, ltb}
 use Rattle.std.specs.List.{slice_get, position_or_len}
 use Rattle.std.proofs.lemmas.List.Sums.{sum_by-cons, sum_by-set, passes_at_first, fails_before_first}
 use Rattle.std.proofs.lemmas.Option.{slice_get-get_or}
-use Rattle.std.proofs.lemmas.Bool.{ltb-false, lt-ltb, eqb-true}
-use Rattle.std.proofs.lemmas.List.{length-set, length-map}
+use Rattle.std.proofs.lemmas.Bool.{ltb-false, lt-ltb, le-ltb, eqb-true}
+use Rattle.std.proofs.lemmas.List.Quantifiers.{position-Some}
+use Rattle.std.proofs.lemmas.List.{length-set, length-map, length-replicate}
 use Rattle.std.specs.Option.{option_map}
 use Rattle.cl_types.specs.declared.addr.Addr.{Addr}
 use Rattle.cl_types.specs.declared.addr.Addr.TheVariants.{V4, V6}
-use Rattle.egress_marks.specs.Places.{is_same, is_held_by, mark_of, IsHeld, freed, IsMarks}
+use Rattle.egress_marks.specs.Places.{no_marks, is_same, is_held_by, mark_of, IsHeld, freed, IsMarks}
 
 -- where not all places are held, one is free
 pub some_free : (places : List (Option Addr)) → count_by is_some places < length places → position_or_len is_none places < length places
@@ -104,3 +105,50 @@ IsMarks-freed places a marks =
 pub some_position : (places : List (Option Addr)) → count_by is_some places < length places → IsSome (position is_none places)
 some_position places few =
     rw (lt-ltb (position_or_len is_none places) (length places) (some_free places few)) refl
+
+pub no_marks-is : (places : List (Option Addr)) → places ≡ replicate 255 None → places ≡ no_marks
+unfolding no_marks
+no_marks-is places e = e
+
+abbrev free : ℕ → List (Option Addr)
+free n = replicate n None
+
+none_in_free : (n : ℕ) (a : Addr) → position_or_len (is_held_by a) (free n) ≡ n
+none_in_free zero a = refl
+none_in_free (suc n) a = omega (arith, none_in_free n a)
+
+mark_of-free : (n : ℕ) (a : Addr) → mark_of (free n) a ≡ None
+mark_of-free n a =
+    let size : length (free n) ≡ n = length-replicate n None in
+    rw (le-ltb (position_or_len (is_held_by a) (free n)) (length (free n)) (omega (arith, size, none_in_free n a))) refl
+
+count-free : (n : ℕ) → count_by is_some (free n) ≡ 0
+count-free zero = refl
+count-free (suc n) = omega (arith, sum_by-cons (λ (x : Option Addr). cond (is_some x) 1 0) None (free n), count-free n)
+
+pub mark_of-no_marks : (places : List (Option Addr)) (a : Addr) → places ≡ replicate 255 None → mark_of places a ≡ None
+mark_of-no_marks places a e = ap (λ zs. mark_of zs a) e ∙ mark_of-free 255 a
+
+pub count-no_marks : (places : List (Option Addr)) → places ≡ replicate 255 None → count_by is_some places ≡ 0
+count-no_marks places e = ap (count_by is_some) e ∙ count-free 255
+
+-- whoever holds the mark of a is a
+held_here : (places : List (Option Addr)) (a : Addr) (m : ℕ) → mark_of places a ≡ Some m → (i : ℕ) × (i + 1 ≡ m) × (is_held_by a (get_or places i None) ≡ true)
+held_here places a m h =
+    elim (position (is_held_by a) places) as (λ r. position (is_held_by a) places ≡ r → option_map (λ (i : ℕ). i + 1) r ≡ Some m → (i : ℕ) × (i + 1 ≡ m) × (is_held_by a (get_or places i None) ≡ true)) [
+      | None ↦ λ e g. cc
+      | Some i ↦ λ e g.
+          let at : i + 1 ≡ m = cc in
+          (i, at, (position-Some (is_held_by a) places i None e).1)
+    ] refl h
+
+same_holder : (place : Option Addr) (a b : Addr) → is_held_by a place ≡ true → is_held_by b place ≡ true → b ≡ a
+same_holder None a b h g = cc
+same_holder (Some c) a b h g = sym (same_address c b g) ∙ same_address c a h
+
+pub distinct_marks : (places : List (Option Addr)) (a b : Addr) (m : ℕ) → mark_of places a ≡ Some m → mark_of places b ≡ Some m → b ≡ a
+distinct_marks places a b m h g =
+    let x = held_here places a m h in
+    let y = held_here places b m g in
+    let same : y.0 ≡ x.0 = omega (arith, x.1, y.1) in
+    same_holder (get_or places x.0 None) a b x.2 (subst (λ i. is_held_by b (get_or places i None) ≡ true) same y.2)

@@ -1,6 +1,6 @@
 -- Marks of the addresses that leave through a node's egress. A packet carries its mark in `pkt_mark`
 -- (ovs-fields(7)); marks from 1 to 255, the least free one first, are this project's own.
-use Rattle.std.specs.Prelude.{◌≡◌, ℕ, ◌+◌, ◌-◌, ◌≤◌, ◌==◌, List, Bool, false, Option, Some, None, is_none, count_by, position, map, length, slice_set, if◌then◌else◌}
+use Rattle.std.specs.Prelude.{◌≡◌, ℕ, ◌+◌, ◌-◌, ◌≤◌, ◌==◌, List, Bool, false, Option, Some, None, is_none, count_by, replicate, position, map, length, slice_set, if◌then◌else◌}
 use Rattle.std.specs.List.{slice_get, position_or_len}
 use Rattle.std.specs.Option.{option_map}
 use Rattle.cl_types.specs.declared.addr.Addr.{Addr}
@@ -20,6 +20,10 @@ is_held_by a (Some b) = is_same b a
 -- the mark that an address holds; the first place is that of mark 1
 abbrev pub mark_of : List (Option Addr) → Addr → Option ℕ
 mark_of places a = option_map (λ i. i + 1) (position (is_held_by a) places)
+
+-- 255 free places
+unfoldable pub no_marks : List (Option Addr)
+no_marks = replicate 255 None
 
 -- mark m is held by no address
 pub record IsFree (places : List (Option Addr)) (m : ℕ) : Type 0 where

@@ -1,6 +1,7 @@
-ghost use Rattle.std.specs.Prelude.{◌≡◌, ◌≤◌, ◌<◌, ℕ, length, None, IfOk, IfSome, IsNone, IsSome, is_some, count_by, replicate, position, is_none, if◌then◌else◌};
+ghost use Rattle.std.specs.Prelude.{◌≡◌, ◌≤◌, ◌<◌, ℕ, length, None, Some, IfOk, IfSome, IsNone, IsSome, is_some, count_by, position, is_none, if◌then◌else◌};
 ghost use Rattle.std.specs.List.{position_or_len};
-ghost use Rattle.egress_marks.specs.Places.{IsFree, IsHeld, IsMarks, is_held_by, mark_of, least_free, marked, freed};
+ghost use Rattle.cl_types.specs.declared.addr.Addr.{Addr};
+ghost use Rattle.egress_marks.specs.Places.{no_marks, IsFree, IsHeld, IsMarks, is_held_by, mark_of, least_free, marked, freed};
 
 use cl_types::{Addr, Copies, NoMemory};
 use std::alloc::Global;
@@ -38,7 +39,9 @@ fn is_held_by(place: &Option<Addr>, a: Addr) -> bool
 impl Marks {
     /// All marks free.
     pub fn new(alloc: Global) -> Result<Marks, NoMemory>
-        ensures { IfOk result (λ marks. marks ≡ replicate 255 None) }
+        ensures places { IfOk result (λ marks. marks ≡ no_marks) }
+        ensures none { IfOk result (λ marks. (a : Addr) → mark_of marks a ≡ None) }
+        ensures empty { IfOk result (λ marks. count_by is_some marks ≡ 0) }
     {
         Ok(Marks {
             places: vec![in alloc; None; 255]?,
@@ -70,7 +73,8 @@ impl Marks {
     /// The mark of an address. It takes no memory.
     pub fn mark_of(&self, a: Addr) -> Option<u8>
         ensures answer { result ≡ mark_of self.now a }
-        ensures in_range { IfSome result (λ m. m ≤ 255) }
+        ensures distinct { IfSome result (λ m. (b : Addr) → mark_of self.now b ≡ Some m → b ≡ a) }
+        ensures in_range { IfSome result (λ m. (1 ≤ m) × (m ≤ 255)) }
         ensures kept { IsMarks self.now }
     {
         let place = place_of(self.places.as_slice(), a)?;

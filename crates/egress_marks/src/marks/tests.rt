@@ -1,3 +1,5 @@
+ghost use Rattle.std.specs.Prelude.{◌≡◌, is_some, count_by};
+
 use super::*;
 use std::process::Abort;
 use std::test::Fail;
