@@ -27,10 +27,10 @@ inner_loose xs p b w within full least fit front back =
     record {
       here = lt-ltb (number_before xs p + 2 * (p - b)) (number_before xs b) (omega (arith, room.1, right, right_end));
       nearer = λ a low high.
-        let some : Spans (length xs) p a (e - a + 1) = record { from = omega arith; to = omega arith; within = omega (arith, room.0.within) } in
-        let middle = no_room-fits xs p a (e - a + 1) some (least a (e - a + 1) (omega arith)) in
-        let middle_end : number_after xs (a + (e - a + 1) - 1) ≡ number_after xs e = ap (number_after xs) (omega arith) in
-        le-ltb (number_before xs p + 2 * (p - a)) (number_before xs a) (omega (arith, room.1, left, left_end, middle, middle_end, full));
+          let some : Spans (length xs) p a (e - a + 1) = record { from = omega arith; to = omega arith; within = omega (arith, room.0.within) } in
+          let middle = no_room-fits xs p a (e - a + 1) some (least a (e - a + 1) (omega arith)) in
+          let middle_end : number_after xs (a + (e - a + 1) - 1) ≡ number_after xs e = ap (number_after xs) (omega arith) in
+          le-ltb (number_before xs p + 2 * (p - a)) (number_before xs a) (omega (arith, room.1, left, left_end, middle, middle_end, full));
     }
 
 is_nearest : (xs : List Numbered) (p b w : ℕ) (loose : Option ℕ) → IsNearestLoose xs p w loose → b < p → p + 1 < b + w → IsLoose xs p b → loose ≡ Some b
@@ -39,9 +39,9 @@ is_nearest xs p b w (Some r) near front back h =
     ⊎_elim
     (λ same. ap Some same)
     (λ apart. ⊎_elim
-        (λ lower. absurd (both_ways (is_loose xs p b) (near.3 b lower front) h.here))
-        (λ higher. absurd (both_ways (is_loose xs p r) (h.nearer r higher near.0) near.2))
-        apart)
+    (λ lower. absurd (both_ways (is_loose xs p b) (near.3 b lower front) h.here))
+    (λ higher. absurd (both_ways (is_loose xs p r) (h.nearer r higher near.0) near.2))
+    apart)
     (cases_order r b)
 
 pub only_three : (xs : List Numbered) (p b w : ℕ) (loose : Option ℕ) → p ≤ length xs → number_before xs p ≡ number_after xs p + 1 → NoneNarrower xs p w → IsNearestLoose xs p w loose → fits xs p (record { begin = b; width = w }) ≡ true → (b + w ≡ p + 1) ⊎ ((loose ≡ Some b) ⊎ (b ≡ p))
@@ -49,9 +49,9 @@ only_three xs p b w loose within full least near fit =
     let spans = (room-fits xs p (record { begin = b; width = w }) fit).0 in
     ⊎_elim
     (λ front. ⊎_elim
-        (λ back. inr (inl (is_nearest xs p b w loose near front back (inner_loose xs p b w within full least fit front back))))
-        (λ ends. let e : b + w ≡ p + 1 = omega (arith, ends, spans.to) in inl e)
-        (cases_lt (p + 1) (b + w)))
+    (λ back. inr (inl (is_nearest xs p b w loose near front back (inner_loose xs p b w within full least fit front back))))
+    (λ ends. let e : b + w ≡ p + 1 = omega (arith, ends, spans.to) in inl e)
+    (cases_lt (p + 1) (b + w)))
     (λ starts. let e : b ≡ p = omega (arith, starts, spans.from) in inr (inr e))
     (cases_lt b p)
 
@@ -61,9 +61,9 @@ first-loose xs p b w within full least near none fit =
     record {
       fit = fit;
       earlier = λ a lt. false_from_ne_true (fits xs p (record { begin = a; width = w })) (λ other. ⊎_elim
-        (λ ends. both_ways (fits xs p (record { begin = a; width = w })) (none a ends) other)
-        (λ rest. ⊎_elim (λ same. let e : b ≡ a = cc in omega (arith, e, lt)) (λ starts. omega (arith, starts, lt, near.0)) rest)
-        (only_three xs p a w (Some b) within full least near other));
+          (λ ends. both_ways (fits xs p (record { begin = a; width = w })) (none a ends) other)
+          (λ rest. ⊎_elim (λ same. let e : b ≡ a = cc in omega (arith, e, lt)) (λ starts. omega (arith, starts, lt, near.0)) rest)
+          (only_three xs p a w (Some b) within full least near other));
     }
 
 -- what is left where no window fits that ends with the place, or begins at the nearest loose one

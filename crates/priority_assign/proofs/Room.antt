@@ -139,7 +139,7 @@ pub no_room-fits : (xs : List Numbered) (p b w : ℕ) → Spans (length xs) p b 
 no_room-fits xs p b w spans none =
     let v : Window = record { begin = b; width = w } in
     let window : is_window xs p v ≡ true =
-        and_from (leb b p && ltb p (b + w)) (leb (b + w) (length xs + 1)) (and_from (leb b p) (ltb p (b + w)) (le-leb b p spans.from) (lt-ltb p (b + w) spans.to)) (le-leb (b + w) (length xs + 1) spans.within) in
+    and_from (leb b p && ltb p (b + w)) (leb (b + w) (length xs + 1)) (and_from (leb b p) (ltb p (b + w)) (le-leb b p spans.from) (lt-ltb p (b + w) spans.to)) (le-leb (b + w) (length xs + 1) spans.within) in
     leb-false (2 * w) (number_before xs b - number_after xs (b + w - 1) - 1) (subst (λ t. (t && has_room xs v) ≡ false) window none)
 
 -- what is found in a row, and in rows one after another
@@ -195,18 +195,18 @@ found_least xs p v h =
     record {
       fit = passes q (windows n) v h;
       narrowest = λ u fit. ⊎_elim
-        (λ narrower.
+          (λ narrower.
           let spans = (room-fits xs p u fit).0 in
           let none = rows.before u.width (omega (arith, spans.from, spans.to)) (omega (arith, narrower, width)) in
           absurd (both_ways (q u) (none_in_row q (λ b. record { begin = b; width = u.width }) 0 (n + 1) u.begin (omega arith) (omega (arith, spans.from, spans.to, spans.within)) none) fit))
-        (λ wide. wide)
-        (cases_lt u.width v.width);
+          (λ wide. wide)
+          (cases_lt u.width v.width);
       first = λ u fit same. ⊎_elim
-        (λ earlier.
+          (λ earlier.
           let none = row.before u.begin (omega arith) (omega (arith, earlier, begin)) in
           absurd (both_ways (q u) (subst (λ w. q (record { begin = u.begin; width = w }) ≡ false) (sym (same ∙ width)) none) fit))
-        (λ later. later)
-        (cases_lt u.begin v.begin);
+          (λ later. later)
+          (cases_lt u.begin v.begin);
     }
 
 pub IsLeast-least_window : (xs : List Numbered) (p : ℕ) → length xs < 16000 → p ≤ length xs → IsLeast xs p (least_window xs p)

@@ -161,5 +161,4 @@ pub fn least_window(rules: &[Numbered], place: usize) -> Window
 pub fn least_window_law()
     ensures { (rules : List Numbered) (place : ℕ) → length rules < 16000 → place ≤ length rules
         → IsLeast rules place (least_window rules place) }
-{
-}
+{}

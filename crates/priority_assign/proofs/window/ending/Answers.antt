@@ -16,5 +16,5 @@ returns c =
       earlier = λ a lt. ends_before xs p a w (omega (arith, lt));
     })
     (λ none a ends.
-      let same : b ≡ a = omega (arith, ends) in
-      subst (λ i. fits xs p (record { begin = i; width = w }) ≡ false) same (sym c.fits.ensures ∙ none))
+    let same : b ≡ a = omega (arith, ends) in
+    subst (λ i. fits xs p (record { begin = i; width = w }) ≡ false) same (sym c.fits.ensures ∙ none))

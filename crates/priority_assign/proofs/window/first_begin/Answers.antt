@@ -32,4 +32,4 @@ returns c =
       earlier = λ a lt. false_from_ne_true (fits xs p (record { begin = a; width = w })) (λ other. omega (arith, starts a other, lt));
     })
     (λ none a. false_from_ne_true (fits xs p (record { begin = a; width = w })) (λ other.
-      both_ways (fits xs p (record { begin = p; width = w })) (sym c.fits-2.ensures ∙ none) (subst (λ i. fits xs p (record { begin = i; width = w }) ≡ true) (starts a other) other)))
+    both_ways (fits xs p (record { begin = p; width = w })) (sym c.fits-2.ensures ∙ none) (subst (λ i. fits xs p (record { begin = i; width = w }) ≡ true) (starts a other) other)))

@@ -17,8 +17,8 @@ pub loop-width-preserved : goal.loop-width-preserved
 loop-width-preserved c =
     record {
       least = λ b v lt. ⊎_elim
-        (λ narrower. c.loop-width.invariant.least b v narrower)
-        (λ same. let e : c.loop-width.width ≡ v = omega (arith, same, lt) in subst (λ i. fits c.args.rules.now c.args.place (record { begin = b; width = i }) ≡ false) e (c.in_default.ensures b))
-        (cases_lt v c.loop-width.width);
+          (λ narrower. c.loop-width.invariant.least b v narrower)
+          (λ same. let e : c.loop-width.width ≡ v = omega (arith, same, lt) in subst (λ i. fits c.args.rules.now c.args.place (record { begin = b; width = i }) ≡ false) e (c.in_default.ensures b))
+          (cases_lt v c.loop-width.width);
       near = c.next_loose-loose.ensures;
     }
