@@ -28,7 +28,7 @@ spread xs k v =
     ++ evenly (lower xs v) (upper xs v) v.width v.width (window_keys xs k v)
     ++ drop (v.begin + v.width - 1) xs
 
--- a number lies between those of k's neighbours
+-- how far the numbers of k's neighbours lie apart
 abbrev pub gap : List Numbered → RuleKey → ℕ
 gap xs k = number_before xs (place_of xs k) - number_after xs (place_of xs k)
 
