@@ -1,0 +1,4 @@
+pub mod Insertion
+pub mod Rules
+pub mod Search
+pub mod Windows
