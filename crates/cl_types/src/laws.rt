@@ -42,11 +42,9 @@ pub fn written_is_read()
     ensures addresses { (a : Addr) → number_of a < 2 ^ width_of a → IsAddress (address_text a) a }
     ensures prefixes { (b : Block) → number_of b.base < 2 ^ width_of b.base → IsBlock b.base b.len
         → IsPrefix (prefix_text b) b }
-{
-}
+{}
 
 /// A text of an IPv4 address is the one that is written.
 pub fn decimals_have_one_text()
     ensures { (text : List ℕ) (n : ℕ) → IsAddress text (V4 n) → (text ≡ address_text (V4 n)) × (n < 2 ^ 32) }
-{
-}
+{}

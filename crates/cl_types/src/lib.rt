@@ -22,7 +22,10 @@ pub use blocks::{blocks_of_range, blocks_without};
 pub use copies::Copies;
 pub use keyed::{Keyed, find, put, search};
 pub use keys::{Dir, PodKey, PolicyKey, PolicyKind, RuleKey, rule_cmp};
-pub use laws::{decimals_have_one_text, orders_are_exact, texts_have_one_reading, texts_tell_names_apart, written_is_read};
+pub use laws::{
+    decimals_have_one_text, orders_are_exact, texts_have_one_reading, texts_tell_names_apart,
+    written_is_read,
+};
 pub use list::List;
 pub use memory::NoMemory;
 pub use prefix::Prefix;

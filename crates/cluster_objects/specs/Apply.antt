@@ -47,8 +47,8 @@ put_node c n =
     if is_there (is_same node.the_code) n (found (at_node n.name) c.nodes)
     then Ok (record { cluster = c; applied = Unchanged })
     else (if c.fixed
-      then Err NodesFixed
-      else Ok (record { cluster = record c { nodes = put (at_node n.name) n c.nodes }; applied = Changed }))
+    then Err NodesFixed
+    else Ok (record { cluster = record c { nodes = put (at_node n.name) n c.nodes }; applied = Changed }))
 
 -- ---- pods
 

@@ -168,8 +168,8 @@ abbrev pub side_of : ClusterData → PodData → Question → Judgement
 side_of c p q =
     decided_first (first (rules_with c p q native))
     (if is_isolated c p q.dir
-     then allowed_first (first (rules_with c p q kubernetes))
-     else decided_first (first (rules_with c p q baseline)) allowed_by_default)
+    then allowed_first (first (rules_with c p q kubernetes))
+    else decided_first (first (rules_with c p q baseline)) allowed_by_default)
 
 -- the counting pod on the node that has the address
 abbrev pub pod_on : ClusterData → List ℕ → Addr → Option PodData

@@ -87,7 +87,10 @@ impl Pod {
     fn meets(&self, other: &Pod) -> bool
         ensures { result ≡ list_any (λ a. has_address a other.now) self.now.addresses }
     {
-        self.addresses.as_slice().iter().any(|a| other.has_address(*a))
+        self.addresses
+            .as_slice()
+            .iter()
+            .any(|a| other.has_address(*a))
     }
 
     // Whether another pod counts and has an address of this one.

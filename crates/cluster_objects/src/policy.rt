@@ -1,6 +1,9 @@
 ghost use Rattle.std.specs.Prelude.{◌≡◌, IfOk, IsTrue, ◌↔◌};
 
-use cl_types::{Action, Copies, Keyed, List, NoMemory, PolicyKey, PortName, Prefix, RuleKey, Same, Service, Text};
+use cl_types::{
+    Action, Copies, Keyed, List, NoMemory, PolicyKey, PortName, Prefix, RuleKey, Same, Service,
+    Text,
+};
 use label_select::GroupKey;
 use std::marker::Model;
 

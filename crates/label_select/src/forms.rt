@@ -129,5 +129,4 @@ fn is_label_byte(b: u8) -> bool
 pub fn names_have_no_slash()
     ensures namespaces { (text : List ℕ) → is_namespace_name text ≡ true → All (λ b. b ≢ 47) text × (text ≢ []) }
     ensures objects { (text : List ℕ) → is_object_name text ≡ true → All (λ b. b ≢ 47) text }
-{
-}
+{}

@@ -26,7 +26,12 @@ impl Need {
 }
 
 // The value at a key of the labels with one more.
-fn value_with<'a>(labels: Option<&'a Labels>, key: &[u8], value: &'a Text, wanted: &Text) -> Option<&'a Text>
+fn value_with<'a>(
+    labels: Option<&'a Labels>,
+    key: &[u8],
+    value: &'a Text,
+    wanted: &Text,
+) -> Option<&'a Text>
     ensures { option_copied result ≡ value_at (put_label (unwrap_or (option_copied labels.entry) []) key.now value.now) wanted.now }
 {
     if wanted.as_slice() == key {
