@@ -1,5 +1,7 @@
 pub mod Blocks
+pub mod Exit
 pub mod Item
 pub mod ReadLine
+pub mod Run
 pub mod Shown
 pub mod World

@@ -5,5 +5,9 @@ mod blocks;
 mod item;
 mod turn;
 mod reader;
+mod replay;
 mod said;
+mod status;
 mod world;
+
+pub use status::Status;

@@ -1,0 +1,4 @@
+pub mod Ending
+pub mod Revisions
+pub mod Running
+pub mod Wholes
