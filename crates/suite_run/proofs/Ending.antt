@@ -1,5 +1,5 @@
 -- How a run over lines ends.
-use Rattle.std.proofs.Common.{◌≡◌, ℕ, zero, suc, ◌+◌, ◌-◌, ◌^◌, ◌<◌, ◌≤◌, Bool, true, false, ◌||◌, IsTrue, Option, Some, None, IsSome, IfSome, Result, Ok, Err, List, [], ◌∷◌, ◌++◌, length, take, drop, All, refl, sym, ap, ◌∙◌, append_assoc, subst, arith, rules, length-append}
+use Rattle.std.proofs.Common.{◌≡◌, ℕ, zero, suc, ◌+◌, ◌-◌, ◌^◌, ◌<◌, ◌≤◌, Bool, true, false, ◌||◌, IsTrue, Option, Some, None, IsSome, IfSome, Result, Ok, Err, List, [], ◌∷◌, ◌++◌, length, take, drop, All, inl, inr, refl, sym, ap, ◌∙◌, append_assoc, subst, arith, rules, length-append}
 use Rattle.std.proofs.Math.Seq.{take-append_seam, take-append-add}
 use Rattle.std.proofs.lemmas.List.{take_all, take-append-le, length-take-le}
 use Rattle.cl_io.specs.declared.lines.Line.{Line}
@@ -151,7 +151,8 @@ tried_names : (names : List (List ℕ)) (f0 : FilesView) (r : Reading) (f : File
 tried_names names f0 r f kept = kept.order f0.told.tried (Adds-none f0.told.tried)
 
 pub rose_more : (a b c : ℕ) → a ≤ b → Rose b c → Rose a c
-rose_more a b c h r = omega (arith, h, r)
+rose_more a b c h (inl lt) = inl (omega (arith, h, lt))
+rose_more a b c h (inr e) = inr e
 
 pub line_fault : (names : List (List ℕ)) (f0 : FilesView) (o0 : SinkView) (r : Reading) (f : FilesView) (o : SinkView) (w : World) (refused : Bool) (number : ℕ) (run : Running names f0 o0 r f o w refused number) →
     IsTruthful f → (r' : Reading) (f' : FilesView) → Kept (start names) (files_of f0) r' (files_of f') → (stop : LineFault) →

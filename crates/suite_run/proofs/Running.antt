@@ -1,5 +1,5 @@
 -- A run over lines, between two of them.
-use Rattle.std.proofs.Common.{◌≡◌, ℕ, zero, suc, ◌+◌, ◌-◌, ◌<◌, ◌≤◌, Bool, true, false, ◌||◌, IsTrue, Option, Some, None, IsSome, IfSome, Result, Ok, Err, OnOk, List, [], ◌∷◌, ◌++◌, length, take, drop, All, refl, sym, ap, ◌∙◌, append_assoc, append-nil, subst, arith, rules, length-append}
+use Rattle.std.proofs.Common.{◌≡◌, ℕ, zero, suc, ◌+◌, ◌-◌, ◌<◌, ◌≤◌, Bool, true, false, ◌||◌, IsTrue, Option, Some, None, IsSome, IfSome, Result, Ok, Err, IsOk, IsErr, OnOk, OnErr, List, [], ◌∷◌, ◌++◌, length, take, drop, All, refl, sym, ap, ◌∙◌, append_assoc, append-nil, subst, arith, rules, length-append}
 use Rattle.std.proofs.Math.Seq.{take-append_seam, take-append-add}
 use Rattle.std.proofs.lemmas.List.{take_all, take-append-le, get_or-append-add}
 use Rattle.cl_io.specs.declared.lines.Line.{Line}
@@ -209,12 +209,15 @@ Running-more names f0 o0 r f o w refused number run r' f' line h w' block follow
       faultless = next_faultless names f0 o0 r f o w refused number run block.text o' (λ t. next_front names f0 o0 r f o w refused number run r' f' line h w' block follows kept truthful t) faultless;
     }
 
+of_ok : {A E : Type 0} {P : Type 0} (r : Result A E) → IsOk r → OnOk r P → P
+of_ok (Ok x) ok p = p
+of_ok (Err e) ok p = cc
+
 -- a whole text was taken
-pub all_taken : {E : Type 0} (text : List ℕ) (result : Result (Unit {0}) E) (old new : Option (List ℕ)) (room left : Option ℕ) → Takes text result old new room left → (u : Unit {0}) → result ≡ Ok u →
+pub all_taken : {E : Type 0} (text : List ℕ) (result : Result (Unit {0}) E) (old new : Option (List ℕ)) (room left : Option ℕ) → Takes text result old new room left → IsOk result →
     Adds old text new × Lowers room (length text) left
-all_taken {E} text result old new room left t u e =
-    let P : Result (Unit {0}) E → Type 0 = λ z. OnOk z (t.count ≡ length text) in
-    let n : t.count ≡ length text = subst P e t.all in
+all_taken {E} text result old new room left t ok =
+    let n : t.count ≡ length text = of_ok result ok t.all in
     let W : List ℕ → Type 0 = λ z. Adds old z new in
     let L : ℕ → Type 0 = λ z. Lowers room z left in
     (subst W (ap (λ z. take z text) n ∙ take_all (length text) text (omega arith)) t.written, subst L n t.free)
@@ -227,3 +230,15 @@ files_view tried taken places faults steady content knows there s =
 
 abbrev pub sink_view : {S : Type 0} (written : S → Option (List ℕ)) (free : S → Option ℕ) (faults : S → ℕ) (steady : S → Bool) → S → SinkView
 sink_view written free faults steady s = record { written = written s; free = free s; faults = faults s; steady = steady s }
+
+pub of_err : {A E : Type 0} {P : Type 0} (r : Result A E) → IsErr r → OnErr r P → P
+of_err (Ok x) err p = cc
+of_err (Err e) err p = p
+
+pub or_then : (a b c : Bool) → a ≡ true → c ≡ a → c ≡ (a || b)
+or_then true b c t e = e
+or_then false b c t e = cc
+
+pub or_else : (a b c : Bool) → a ≡ false → c ≡ b → c ≡ (a || b)
+or_else true b c t e = cc
+or_else false b c t e = e
