@@ -1,7 +1,7 @@
 -- How a run over lines ends.
 use Rattle.std.proofs.Common.{◌≡◌, ℕ, zero, suc, ◌+◌, ◌-◌, ◌^◌, ◌<◌, ◌≤◌, Bool, true, false, ◌||◌, IsTrue, Option, Some, None, IsSome, IfSome, Result, Ok, Err, List, [], ◌∷◌, ◌++◌, length, take, drop, All, inl, inr, refl, sym, ap, ◌∙◌, append_assoc, subst, arith, rules, length-append}
 use Rattle.std.proofs.Math.Seq.{take-append_seam, take-append-add}
-use Rattle.std.proofs.lemmas.List.{take_all, take-append-le, length-take-le}
+use Rattle.std.proofs.lemmas.List.{take-append-drop, take_all, take-append-le, length-take-le}
 use Rattle.cl_io.specs.declared.lines.Line.{Line}
 use Rattle.cl_io.specs.declared.lines.LineFault.{LineFault}
 use Rattle.cl_io.specs.declared.lines.LineFault.TheVariants as fault
@@ -12,6 +12,8 @@ use Rattle.cl_io.specs.Lines.{whole_lines, first_bytes}
 use Rattle.cl_io.specs.Reading.{Reading, Told, Took, Stands, IsFinished, IsUnopened as Unopened, IsUnreadable as Unreadable, IsOverfull as Overfull}
 use Rattle.cl_io.specs.Sink.{Takes}
 use Rattle.cl_io.specs.Telling.{Adds, AddsSome, StaysTold}
+use Rattle.std.proofs.lemmas.List.Elements.{All-head, All-tail}
+use Rattle.cl_io.proofs.Feeds.{byte_count-append}
 use Rattle.cl_io.proofs.Nexting.{Outside, Kept, Kept-none}
 use Rattle.cl_io.proofs.Putting.{Adds-none, Adds-more}
 use Rattle.cl_io.proofs.Standing.{AddsSome-weaker}
@@ -19,10 +21,10 @@ use Rattle.suite_run.specs.declared.status.Status.{Status}
 use Rattle.suite_run.specs.declared.status.Status.TheVariants.{Done, SomeRefused, BadWords, OpenFault, ReadFault, WriteFault, NoMemory, InputTooLong}
 use Rattle.suite_run.specs.declared.world.World.{World}
 use Rattle.suite_run.specs.Blocks.{blocks, has_refusal, out_of, any_refused}
-use Rattle.suite_run.specs.Run.{FilesView, SinkView, IsTelling, AddsFront, IsFinal, IsUnopened, IsUnreadable, IsOverfull, Ran, whole_files, final_status, fault_status}
+use Rattle.suite_run.specs.Run.{FilesView, SinkView, AddsFront, IsFinal, IsAnswered, IsUnopened, IsUnreadable, IsOverfull, Ran, whole_files, final_status, fault_status}
 use Rattle.suite_run.specs.World.{byte_limit, first_world}
-use Rattle.suite_run.proofs.Running.{files_of, start, due, Faultless, IsTruthful, Running, telling, AddsSome-all, Fronts, due_front, NextFront}
-use Rattle.suite_run.proofs.Wholes.{whole_files-of, line_count}
+use Rattle.suite_run.proofs.Running.{files_of, start, Telling, due, Faultless, IsTruthful, Running, telling, added, AddsSome-all, Fronts, due_front, NextFront}
+use Rattle.suite_run.proofs.Wholes.{whole_files-of, whole_files-append, line_count}
 
 -- ---- what every end leaves
 
@@ -31,11 +33,11 @@ pub record Leaving (names : List (List ℕ)) (f0 : FilesView) (o0 : SinkView) (f
   pub kept : Kept (start names) (files_of f0) reading (files_of f)
   pub later : o0.faults ≤ o.faults
   pub faultless : Faultless names f0 o0 o.faults
-  pub front : IsTelling names f0 → AddsFront o0.written (due names f0) o.written
+  pub front : Telling names f0 → AddsFront o0.written (due names f0) o.written
 
 -- the blocks so far are the front of what is due
 pub run_front : (names : List (List ℕ)) (f0 : FilesView) (o0 : SinkView) (r : Reading) (f : FilesView) (o : SinkView) (w : World) (refused : Bool) (number : ℕ) → Running names f0 o0 r f o w refused number →
-    IsTruthful f → IsTelling names f0 → AddsFront o0.written (due names f0) o.written
+    IsTruthful f → Telling names f0 → AddsFront o0.written (due names f0) o.written
 run_front names f0 o0 r f o w refused number run truthful tells =
     let d = due_front names f0 r f run.done run.kept run.stands truthful tells in
     let text = blocks 1 first_world run.done in
@@ -60,13 +62,17 @@ part_front names f0 o0 r f o w refused number run text count new within written 
 
 -- ---- a run that stops before the end
 
+abbrev pub Complete : List (List ℕ) → FilesView → SinkView → Status → FilesView → SinkView → Type 0
+Complete names f0 o0 status f o = (Rose f0.faults f.faults → ⊥) → (Rose o0.faults o.faults → ⊥) → IsSome f.told.taken → byte_count (whole_files f0.content names) ≤ byte_limit → IsAnswered status
+
 pub stopped : (names : List (List ℕ)) (f0 : FilesView) (o0 : SinkView) (status : Status) (f : FilesView) (o : SinkView) → (IsFinal status → ⊥) → (status ≡ BadWords → ⊥) → Leaving names f0 o0 f o →
-    (status ≡ OpenFault → AddsSome f0.told.taken (IsUnopened names f0 o0 f o) f.told.taken) →
-    (status ≡ ReadFault → AddsSome f0.told.taken (IsUnreadable names f0 o0 f o) f.told.taken) →
-    (status ≡ InputTooLong → AddsSome f0.told.taken (IsOverfull names o0 o) f.told.taken) →
+    (status ≡ OpenFault → AddsSome f0.told.taken (IsUnopened names f0.told.tried f.told.tried o0.written o.written) f.told.taken) →
+    (status ≡ ReadFault → AddsSome f0.told.taken (IsUnreadable names f0.told.tried f.told.tried o0.written o.written) f.told.taken) →
+    (status ≡ InputTooLong → AddsSome f0.told.taken (IsOverfull names o0.written o.written) f.told.taken) →
     ((status ≡ InputTooLong → ⊥) → (status ≡ NoMemory → ⊥) → AddsSome f0.told.taken (λ entries. byte_count entries ≤ byte_limit) f.told.taken) →
-    (status ≡ OpenFault → Rose f0.faults f.faults) → (status ≡ ReadFault → Rose f0.faults f.faults) → (status ≡ WriteFault → Rose o0.faults o.faults) → Ran names f0 o0 status f o
-stopped names f0 o0 status f o unfinished words leaving unopened unreadable overfull within open_cause read_cause write_cause =
+    (status ≡ OpenFault → Rose f0.faults f.faults) → (status ≡ ReadFault → Rose f0.faults f.faults) → (status ≡ WriteFault → Rose o0.faults o.faults) →
+    Complete names f0 o0 status f o → Ran names f0 o0 status f o
+stopped names f0 o0 status f o unfinished words leaving unopened unreadable overfull within open_cause read_cause write_cause complete =
     record {
       words = words;
       taken = λ h. absurd (unfinished h);
@@ -80,6 +86,7 @@ stopped names f0 o0 status f o unfinished words leaving unopened unreadable over
       open_cause = open_cause;
       read_cause = read_cause;
       write_cause = write_cause;
+      complete = complete;
       later = leaving.kept.later;
       sink_later = leaving.later;
       faultless = leaving.kept.faultless;
@@ -93,7 +100,7 @@ stopped names f0 o0 status f o unfinished words leaving unopened unreadable over
 
 pub no_memory : (names : List (List ℕ)) (f0 : FilesView) (o0 : SinkView) (f : FilesView) (o : SinkView) → Leaving names f0 o0 f o → Ran names f0 o0 NoMemory f o
 no_memory names f0 o0 f o leaving =
-    stopped names f0 o0 NoMemory f o (λ h. h) (λ e. cc) leaving (λ e. cc) (λ e. cc) (λ e. cc) (λ a b. absurd (b refl)) (λ e. cc) (λ e. cc) (λ e. cc)
+    stopped names f0 o0 NoMemory f o (λ h. h) (λ e. cc) leaving (λ e. cc) (λ e. cc) (λ e. cc) (λ a b. absurd (b refl)) (λ e. cc) (λ e. cc) (λ e. cc) (λ _ _ _ _. tt)
 
 -- before the first line
 pub no_world : (names : List (List ℕ)) (f0 : FilesView) (o0 : SinkView) → Ran names f0 o0 NoMemory f0 o0
@@ -115,16 +122,18 @@ pub write_fault : (names : List (List ℕ)) (f0 : FilesView) (o0 : SinkView) (r 
 write_fault names f0 o0 r done f o leaving kept stands rose =
     stopped names f0 o0 WriteFault f o (λ h. h) (λ e. cc) leaving (λ e. cc) (λ e. cc) (λ e. cc)
     (λ a b. AddsSome-weaker f0.told.taken (Took done r) (λ entries. byte_count entries ≤ byte_limit) f.told.taken stands.taken (λ entries t. omega (arith, t.bytes, stands.within, kept.task.input_limit)))
-    (λ e. cc) (λ e. cc) (λ e. rose)
+    (λ e. cc) (λ e. cc) (λ e. rose) (λ _ no _ _. absurd (no rose))
 
 -- more lines than can be numbered
 pub too_many : (names : List (List ℕ)) (f0 : FilesView) (o0 : SinkView) (r : Reading) (f : FilesView) (o : SinkView) (w : World) (refused : Bool) (number : ℕ) (run : Running names f0 o0 r f o w refused number) →
     18446744073709551615 ≤ number → IsTruthful f → Ran names f0 o0 InputTooLong f o
 too_many names f0 o0 r f o w refused number run many truthful =
     stopped names f0 o0 InputTooLong f o (λ h. h) (λ e. cc) (leaving names f0 o0 r f o w refused number run truthful r f run.kept) (λ e. cc) (λ e. cc)
-    (λ e. AddsSome-weaker f0.told.taken (Took run.done r) (IsOverfull names o0 o) f.told.taken run.stands.taken
+    (λ e. AddsSome-weaker f0.told.taken (Took run.done r) (IsOverfull names o0.written o.written) f.told.taken run.stands.taken
         (λ entries t. absurd (omega (arith, line_count run.done r entries t, run.count, many, run.stands.within, run.kept.task.input_limit))))
     (λ a. absurd (a refl)) (λ e. cc) (λ e. cc) (λ e. cc)
+    (λ _ _ t _. let a = added f0.told.taken (Took run.done r) (IsOfContent f.content) f.told.taken run.stands.taken truthful t in
+        absurd (omega (arith, line_count run.done r a.more a.has, run.count, many, run.stands.within, run.kept.task.input_limit)))
 
 -- ---- faults of the input
 
@@ -150,23 +159,37 @@ names_by_count entries names names' begun e same le =
 tried_names : (names : List (List ℕ)) (f0 : FilesView) (r : Reading) (f : FilesView) → Kept (start names) (files_of f0) r (files_of f) → Adds f0.told.tried (take r.begun names) f.told.tried
 tried_names names f0 r f kept = kept.order f0.told.tried (Adds-none f0.told.tried)
 
+-- what was taken has no more bytes than the files
+bytes_taken : (content : List ℕ → List ℕ) (entries : List Entry) → All (IsOfContent content) entries → byte_count entries ≤ byte_count (whole_files content (names_of entries))
+bytes_taken content [] holds = omega arith
+bytes_taken content (entry ∷ entries) holds =
+    let b = (All-head (IsOfContent content) entry entries holds).begins in
+    omega (arith, bytes_taken content entries (All-tail (IsOfContent content) entry entries holds), ap length b.1, length-append entry.bytes b.0)
+
+bytes_within : (content content' : List ℕ → List ℕ) (names : List (List ℕ)) (r : Reading) (entries : List Entry) → names_of entries ≡ take r.begun r.names → r.names ≡ names → content' ≡ content → All (IsOfContent content') entries →
+    byte_count entries ≤ byte_count (whole_files content names)
+bytes_within content content' names r entries taken same kept holds =
+    let split : whole_files content' names ≡ whole_files content' (names_of entries) ++ whole_files content' (drop r.begun names) =
+        ap (whole_files content') (sym (take-append-drop r.begun names)) ∙ (whole_files-append content' (take r.begun names) (drop r.begun names) ∙ ap (λ z. whole_files content' z ++ whole_files content' (drop r.begun names)) (sym (taken ∙ ap (take r.begun) same))) in
+    omega (arith, bytes_taken content' entries holds, ap byte_count split, byte_count-append (whole_files content' (names_of entries)) (whole_files content' (drop r.begun names)), ap (λ z. byte_count (whole_files z names)) kept)
+
 pub rose_more : (a b c : ℕ) → a ≤ b → Rose b c → Rose a c
 rose_more a b c h (inl lt) = inl (omega (arith, h, lt))
 rose_more a b c h (inr e) = inr e
 
 pub line_fault : (names : List (List ℕ)) (f0 : FilesView) (o0 : SinkView) (r : Reading) (f : FilesView) (o : SinkView) (w : World) (refused : Bool) (number : ℕ) (run : Running names f0 o0 r f o w refused number) →
-    IsTruthful f → (r' : Reading) (f' : FilesView) → Kept (start names) (files_of f0) r' (files_of f') → (stop : LineFault) →
+    IsTruthful f → (r' : Reading) (f' : FilesView) → IsTruthful f' → Kept (start names) (files_of f0) r' (files_of f') → (stop : LineFault) →
     (stop ≡ fault.Begin → Leaves Unopened r f.told r' f'.told) → (stop ≡ fault.Read → Leaves Unreadable r f.told r' f'.told) → (stop ≡ fault.InputTooLong → Leaves Overfull r f.told r' f'.told) →
     (stop ≡ fault.Begin → (0 < r'.begun) × Rose f.faults f'.faults) → (stop ≡ fault.Read → (0 < r'.begun) × Rose f.faults f'.faults) →
     Ran names f0 o0 (fault_status stop) f' o
-line_fault names f0 o0 r f o w refused number run truthful r' f' kept fault.NoMemory unopened unreadable overfull begin_cause read_cause =
+line_fault names f0 o0 r f o w refused number run truthful r' f' truthful' kept fault.NoMemory unopened unreadable overfull begin_cause read_cause =
     no_memory names f0 o0 f' o (leaving names f0 o0 r f o w refused number run truthful r' f' kept)
-line_fault names f0 o0 r f o w refused number run truthful r' f' kept fault.Begin unopened unreadable overfull begin_cause read_cause =
+line_fault names f0 o0 r f o w refused number run truthful r' f' truthful' kept fault.Begin unopened unreadable overfull begin_cause read_cause =
     let left = unopened refl f0.told run.done run.stands in
     let some = (begin_cause refl).0 in
     let most : r'.begun ≤ length names = omega (arith, kept.most, ap length kept.task.names) in
     stopped names f0 o0 OpenFault f' o (λ h. h) (λ e. cc) (leaving names f0 o0 r f o w refused number run truthful r' f' kept)
-    (λ e. AddsSome-weaker f0.told.taken (Unopened run.done r') (IsUnopened names f0 o0 f' o) f'.told.taken left
+    (λ e. AddsSome-weaker f0.told.taken (Unopened run.done r') (IsUnopened names f0.told.tried f'.told.tried o0.written o.written) f'.told.taken left
         (λ entries u.
             let n = names_by_count entries names r'.names (r'.begun - 1) u.names kept.task.names (omega (arith, most)) in
             let P : ℕ → Type 0 = λ z. Adds f0.told.tried (take z names) f'.told.tried in
@@ -174,31 +197,33 @@ line_fault names f0 o0 r f o w refused number run truthful r' f' kept fault.Begi
             record { ended = u.ended; named = n.1; fewer = omega (arith, more, most); tried = subst P more (tried_names names f0 r' f' kept); written = written_lines names f0 o0 r f o w refused number run entries u.lines }))
     (λ e. cc) (λ e. cc)
     (λ a b. AddsSome-weaker f0.told.taken (Unopened run.done r') (λ entries. byte_count entries ≤ byte_limit) f'.told.taken left (λ entries u. omega (arith, u.within, kept.task.input_limit)))
-    (λ e. rose_more f0.faults f.faults f'.faults run.kept.later (begin_cause refl).1) (λ e. cc) (λ e. cc)
-line_fault names f0 o0 r f o w refused number run truthful r' f' kept fault.Read unopened unreadable overfull begin_cause read_cause =
+    (λ e. rose_more f0.faults f.faults f'.faults run.kept.later (begin_cause refl).1) (λ e. cc) (λ e. cc) (λ no _ _ _. absurd (no (rose_more f0.faults f.faults f'.faults run.kept.later (begin_cause refl).1)))
+line_fault names f0 o0 r f o w refused number run truthful r' f' truthful' kept fault.Read unopened unreadable overfull begin_cause read_cause =
     let left = unreadable refl f0.told run.done run.stands in
     let most : r'.begun ≤ length names = omega (arith, kept.most, ap length kept.task.names) in
     stopped names f0 o0 ReadFault f' o (λ h. h) (λ e. cc) (leaving names f0 o0 r f o w refused number run truthful r' f' kept)
     (λ e. cc)
-    (λ e. AddsSome-weaker f0.told.taken (Unreadable run.done r') (IsUnreadable names f0 o0 f' o) f'.told.taken left
+    (λ e. AddsSome-weaker f0.told.taken (Unreadable run.done r') (IsUnreadable names f0.told.tried f'.told.tried o0.written o.written) f'.told.taken left
         (λ entries u.
             let n = names_by_count entries names r'.names r'.begun u.names kept.task.names most in
             let P : List (List ℕ) → Type 0 = λ z. Adds f0.told.tried z f'.told.tried in
             record { cut = u.cut; named = n.1; tried = subst P (sym (u.names ∙ ap (take r'.begun) kept.task.names)) (tried_names names f0 r' f' kept); written = written_lines names f0 o0 r f o w refused number run entries u.lines }))
     (λ e. cc)
     (λ a b. AddsSome-weaker f0.told.taken (Unreadable run.done r') (λ entries. byte_count entries ≤ byte_limit) f'.told.taken left (λ entries u. omega (arith, u.within, kept.task.input_limit)))
-    (λ e. cc) (λ e. rose_more f0.faults f.faults f'.faults run.kept.later (read_cause refl).1) (λ e. cc)
-line_fault names f0 o0 r f o w refused number run truthful r' f' kept fault.InputTooLong unopened unreadable overfull begin_cause read_cause =
+    (λ e. cc) (λ e. rose_more f0.faults f.faults f'.faults run.kept.later (read_cause refl).1) (λ e. cc) (λ no _ _ _. absurd (no (rose_more f0.faults f.faults f'.faults run.kept.later (read_cause refl).1)))
+line_fault names f0 o0 r f o w refused number run truthful r' f' truthful' kept fault.InputTooLong unopened unreadable overfull begin_cause read_cause =
     let left = overfull refl f0.told run.done run.stands in
     let most : r'.begun ≤ length names = omega (arith, kept.most, ap length kept.task.names) in
     stopped names f0 o0 InputTooLong f' o (λ h. h) (λ e. cc) (leaving names f0 o0 r f o w refused number run truthful r' f' kept)
     (λ e. cc) (λ e. cc)
-    (λ e. AddsSome-weaker f0.told.taken (Overfull run.done r') (IsOverfull names o0 o) f'.told.taken left
+    (λ e. AddsSome-weaker f0.told.taken (Overfull run.done r') (IsOverfull names o0.written o.written) f'.told.taken left
         (λ entries u.
             let n = names_by_count entries names r'.names r'.begun u.names kept.task.names most in
             record { named = n.1; over = u.over ∙ ap (λ z. z + 1) kept.task.input_limit;
               written = written_lines names f0 o0 r f o w refused number run (first_bytes byte_limit entries) (ap (λ z. whole_lines (first_bytes z entries)) (sym kept.task.input_limit) ∙ u.lines) }))
     (λ a. absurd (a refl)) (λ e. cc) (λ e. cc) (λ e. cc)
+    (λ _ _ t within. let a = added f0.told.taken (Overfull run.done r') (IsOfContent f'.content) f'.told.taken left truthful' t in
+        absurd (omega (arith, a.has.over, kept.task.input_limit, within, bytes_within f0.content f'.content names r' a.more a.has.names kept.task.names kept.content a.all)))
 
 -- ---- the end
 
@@ -228,6 +253,7 @@ finished names f0 o0 r f o w refused number run truthful r' f' kept leaves truth
       open_cause = λ e. absurd (final_is refused OpenFault e (λ h. h));
       read_cause = λ e. absurd (final_is refused ReadFault e (λ h. h));
       write_cause = λ e. absurd (final_is refused WriteFault e (λ h. h));
+      complete = λ _ _ _ _. answered refused;
       later = kept.later;
       sink_later = l.later;
       faultless = kept.faultless;
@@ -239,6 +265,9 @@ finished names f0 o0 r f o w refused number run truthful r' f' kept leaves truth
       there = kept.there;
     }
   where
+    answered : (b : Bool) → IsAnswered (final_status b)
+    answered true = tt
+    answered false = tt
     final_words : (b : Bool) → final_status b ≡ BadWords → ⊥
     final_words true e = cc
     final_words false e = cc

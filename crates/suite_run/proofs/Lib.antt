@@ -2,3 +2,4 @@ pub mod Ending
 pub mod Revisions
 pub mod Running
 pub mod Wholes
+pub mod Saying

@@ -30,13 +30,16 @@ files_of f = record { told = f.told; places = f.places; faults = f.faults; stead
 abbrev pub start : List (List ℕ) → Reading
 start names = reading_of names byte_limit byte_limit
 
+abbrev pub Telling : List (List ℕ) → FilesView → Type 0
+Telling names f = IsTelling names f.knows f.places f.told.taken
+
 -- the text of the whole run
 abbrev pub due : List (List ℕ) → FilesView → List ℕ
 due names f = out_of (whole_files f.content names)
 
 -- with room for the whole text no write fails
 abbrev pub Faultless : List (List ℕ) → FilesView → SinkView → ℕ → Type 0
-Faultless names f0 o0 faults = IsTrue o0.steady → IsTelling names f0 → IfSome o0.free (λ room. length (due names f0) ≤ room → faults ≡ o0.faults)
+Faultless names f0 o0 faults = IsTrue o0.steady → Telling names f0 → IfSome o0.free (λ room. length (due names f0) ≤ room → faults ≡ o0.faults)
 
 abbrev pub IsTruthful : FilesView → Type 0
 IsTruthful f = IfSome f.told.taken (All (IsOfContent f.content))
@@ -102,7 +105,7 @@ AddsSome-all None P Q (Some b) s q = absurd s
 AddsSome-all {A} (Some a) P Q (Some b) s q = let R : List A → Type 0 = All Q in (s.0, s.1, (s.2, All-back Q a s.0 (subst R s.1 q)))
 
 -- what is told of files that tell of all names
-pub telling : (names : List (List ℕ)) (f0 : FilesView) (r : Reading) (f : FilesView) → Kept (start names) (files_of f0) r (files_of f) → IsTelling names f0 →
+pub telling : (names : List (List ℕ)) (f0 : FilesView) (r : Reading) (f : FilesView) → Kept (start names) (files_of f0) r (files_of f) → Telling names f0 →
     StaysTold f0.told.tried f.told.tried × IsSome f.told.taken
 telling names f0 r f kept tells =
     let t = kept.telling tells.known (omega (arith, tells.places)) in
@@ -115,7 +118,7 @@ pub record Fronts (names : List (List ℕ)) (f0 : FilesView) (done : List (List 
   pub split : due names f0 ≡ blocks 1 first_world done ++ rest
 
 pub due_front : (names : List (List ℕ)) (f0 : FilesView) (r : Reading) (f : FilesView) (done : List (List ℕ)) → Kept (start names) (files_of f0) r (files_of f) → Stands f0.told done r f.told → IsTruthful f →
-    IsTelling names f0 → Fronts names f0 done
+    Telling names f0 → Fronts names f0 done
 unfolding out_of
 due_front names f0 r f done kept stands truthful tells =
     let a = added f0.told.taken (Took done r) (IsOfContent f.content) f.told.taken stands.taken truthful (telling names f0 r f kept tells).1 in
@@ -168,14 +171,14 @@ pub record NextFront (names : List (List ℕ)) (f0 : FilesView) (done : List (Li
 
 pub next_front : (names : List (List ℕ)) (f0 : FilesView) (o0 : SinkView) (r : Reading) (f : FilesView) (o : SinkView) (w : World) (refused : Bool) (number : ℕ) (run : Running names f0 o0 r f o w refused number)
     (r' : Reading) (f' : FilesView) (line : Line) (h : Handed f0 run.done line r' f') (w' : World) (block : Block) → Follows number (step w (said h.bytes)) w' block →
-    Kept (start names) (files_of f0) r' (files_of f') → IsTruthful f' → IsTelling names f0 → NextFront names f0 run.done block.text
+    Kept (start names) (files_of f0) r' (files_of f') → IsTruthful f' → Telling names f0 → NextFront names f0 run.done block.text
 next_front names f0 o0 r f o w refused number run r' f' line h w' block follows kept truthful tells =
     let d = due_front names f0 r' f' (run.done ++ h.bytes ∷ []) kept h.stands truthful tells in
     let e = next_blocks run.done h.bytes number w block.text run.count run.world_is follows.text in
     record { rest = d.rest; split = d.split ∙ (ap (λ z. z ++ d.rest) e ∙ append_assoc (blocks 1 first_world run.done) block.text d.rest) }
 
 pub next_faultless : (names : List (List ℕ)) (f0 : FilesView) (o0 : SinkView) (r : Reading) (f : FilesView) (o : SinkView) (w : World) (refused : Bool) (number : ℕ) (run : Running names f0 o0 r f o w refused number)
-    (text : List ℕ) (o' : SinkView) → (IsTelling names f0 → NextFront names f0 run.done text) →
+    (text : List ℕ) (o' : SinkView) → (Telling names f0 → NextFront names f0 run.done text) →
     (IsTrue o.steady → IfSome o.free (λ room. length text ≤ room → o'.faults ≡ o.faults)) → Faultless names f0 o0 o'.faults
 next_faultless names f0 o0 r f o w refused number run text o' front put = λ s t.
     let d = front t in

@@ -4,4 +4,5 @@ pub mod Item
 pub mod ReadLine
 pub mod Run
 pub mod Shown
+pub mod Words
 pub mod World

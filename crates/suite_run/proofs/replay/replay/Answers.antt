@@ -5,10 +5,10 @@ use Rattle.cl_io.specs.Reading.{told}
 use Rattle.cl_io.specs.Sink.{Takes}
 use Rattle.cl_io.proofs.Nexting.{Kept-more}
 use Rattle.suite_run.specs.declared.status.Status.{Status}
-use Rattle.suite_run.specs.Run.{IsTelling, Ran}
+use Rattle.suite_run.specs.Run.{Ran}
 use Rattle.suite_run.specs.World.{byte_limit}
 use Rattle.suite_run.proofs.Ending.{Leaving, rose_more, leaving, part_front, no_memory, write_fault, too_many, line_fault, finished}
-use Rattle.suite_run.proofs.Running.{start, files_of, files_view, sink_view, handed, Running-none, Running-more, next_front, next_faultless, all_taken, of_err, or_then, or_else}
+use Rattle.suite_run.proofs.Running.{Telling, start, files_of, files_view, sink_view, handed, Running-none, Running-more, next_front, next_faultless, all_taken, of_err, or_then, or_else}
 use Rattle.suite_run.proofs.replay.replay.Goals as goal
 use Rattle.suite_run.proofs.replay.replay.Goals.{then-refused, else-refused}
 
@@ -31,7 +31,7 @@ returns-in-Err g c =
     let kept = Kept-more (start names) c.loop-number.lines c.next.new.self (files_of (view c.args.files.now)) (files_of (view c.loop-number.files)) (files_of (view c.next.new.files)) run.kept n.task n.begun.0 n.begun.1 n.order n.later (λ s h. let u = n.unfailing s h in (u.faults, u.steady)) n.telling n.content n.knows n.there in
     let P : Status → Type 0 = λ z. Ran names (view c.args.files.now) (seen c.args.out.now) z (view c.next.new.files) (seen c.loop-number.out) in
     subst P (sym c.of_fault.ensures)
-    (line_fault names (view c.args.files.now) (seen c.args.out.now) c.loop-number.lines (view c.loop-number.files) (seen c.loop-number.out) c.loop-number.world c.loop-number.refused c.loop-number.number run (g.met.F.Files.truthful c.loop-number.files) c.next.new.self (view c.next.new.files) kept c.in-Err.fault
+    (line_fault names (view c.args.files.now) (seen c.args.out.now) c.loop-number.lines (view c.loop-number.files) (seen c.loop-number.out) c.loop-number.world c.loop-number.refused c.loop-number.number run (g.met.F.Files.truthful c.loop-number.files) c.next.new.self (view c.next.new.files) (g.met.F.Files.truthful c.next.new.files) kept c.in-Err.fault
     (λ e. n.unopened (ap Err e)) (λ e. n.unreadable (ap Err e)) (λ e. n.overfull (ap Err e)) (λ e. n.begin_cause (ap Err e)) (λ e. n.read_cause (ap Err e)))
 
 pub returns-then-is_end : goal.returns-then-is_end
@@ -74,7 +74,7 @@ returns-then-is_err g c =
     let takes = subst E c.as_slice.ensures c.put.ensures.takes in
     let F : List ℕ → Type 0 = λ z. IsTrue (g.O.Sink.steady c.loop-number.out) → IfSome (g.O.Sink.free c.loop-number.out) (λ room. length z ≤ room → g.O.Sink.faults c.put.new.out ≡ g.O.Sink.faults c.loop-number.out) in
     let faultless = subst F c.as_slice.ensures c.put.ensures.faultless in
-    let front = λ (t : IsTelling names (view c.args.files.now)). next_front names (view c.args.files.now) (seen c.args.out.now) c.loop-number.lines (view c.loop-number.files) (seen c.loop-number.out) c.loop-number.world c.loop-number.refused c.loop-number.number run c.next.new.self (view c.next.new.files) c.in-Ok-next.line h c.turn.new.world c.in-Ok-turn.block follows kept (g.met.F.Files.truthful c.next.new.files) t in
+    let front = λ (t : Telling names (view c.args.files.now)). next_front names (view c.args.files.now) (seen c.args.out.now) c.loop-number.lines (view c.loop-number.files) (seen c.loop-number.out) c.loop-number.world c.loop-number.refused c.loop-number.number run c.next.new.self (view c.next.new.files) c.in-Ok-next.line h c.turn.new.world c.in-Ok-turn.block follows kept (g.met.F.Files.truthful c.next.new.files) t in
     let left : Leaving names (view c.args.files.now) (seen c.args.out.now) (view c.next.new.files) (seen c.put.new.out) = record {
       reading = c.next.new.self;
       kept = kept;
