@@ -1,29 +1,27 @@
 -- How a run over lines ends.
-use Rattle.std.proofs.Common.{◌≡◌, ℕ, zero, suc, ◌+◌, ◌-◌, ◌^◌, ◌<◌, ◌≤◌, Bool, true, false, ◌||◌, IsTrue, Option, Some, None, IsSome, IfSome, Result, Ok, Err, List, [], ◌∷◌, ◌++◌, length, take, drop, All, inl, inr, refl, sym, ap, ◌∙◌, append_assoc, subst, arith, rules, length-append}
+use Rattle.std.proofs.Common.{◌≡◌, ℕ, suc, ◌+◌, ◌-◌, ◌<◌, ◌≤◌, Bool, true, false, Option, Some, None, IsSome, IfSome, List, [], ◌∷◌, ◌++◌, length, take, drop, All, inl, inr, refl, sym, ap, ◌∙◌, subst, arith, length-append}
 use Rattle.std.proofs.Math.Seq.{take-append_seam, take-append-add}
-use Rattle.std.proofs.lemmas.List.{take-append-drop, take_all, take-append-le, length-take-le}
-use Rattle.cl_io.specs.declared.lines.Line.{Line}
+use Rattle.std.proofs.lemmas.List.{take-append-drop, take-append-le, length-take-le}
 use Rattle.cl_io.specs.declared.lines.LineFault.{LineFault}
 use Rattle.cl_io.specs.declared.lines.LineFault.TheVariants as fault
 use Rattle.cl_io.specs.Answers.{Leaves}
 use Rattle.cl_io.specs.Causes.{Rose}
-use Rattle.cl_io.specs.Files.{Entry, IsOfContent, IsEnded, names_of, byte_count}
+use Rattle.cl_io.specs.Files.{Entry, IsOfContent, names_of, byte_count}
 use Rattle.cl_io.specs.Lines.{whole_lines, first_bytes}
-use Rattle.cl_io.specs.Reading.{Reading, Told, Took, Stands, IsFinished, IsUnopened as Unopened, IsUnreadable as Unreadable, IsOverfull as Overfull}
-use Rattle.cl_io.specs.Sink.{Takes}
-use Rattle.cl_io.specs.Telling.{Adds, AddsSome, StaysTold}
+use Rattle.cl_io.specs.Reading.{Reading, Took, Stands, IsFinished, IsUnopened as Unopened, IsUnreadable as Unreadable, IsOverfull as Overfull}
+use Rattle.cl_io.specs.Telling.{Adds, AddsSome}
 use Rattle.std.proofs.lemmas.List.Elements.{All-head, All-tail}
 use Rattle.cl_io.proofs.Feeds.{byte_count-append}
-use Rattle.cl_io.proofs.Nexting.{Outside, Kept, Kept-none}
+use Rattle.cl_io.proofs.Nexting.{Kept, Kept-none}
 use Rattle.cl_io.proofs.Putting.{Adds-none, Adds-more}
 use Rattle.cl_io.proofs.Standing.{AddsSome-weaker}
 use Rattle.suite_run.specs.declared.status.Status.{Status}
-use Rattle.suite_run.specs.declared.status.Status.TheVariants.{Done, SomeRefused, BadWords, OpenFault, ReadFault, WriteFault, NoMemory, InputTooLong}
+use Rattle.suite_run.specs.declared.status.Status.TheVariants.{BadWords, OpenFault, ReadFault, WriteFault, NoMemory, InputTooLong}
 use Rattle.suite_run.specs.declared.world.World.{World}
 use Rattle.suite_run.specs.Blocks.{blocks, has_refusal, out_of, any_refused}
 use Rattle.suite_run.specs.Run.{FilesView, SinkView, AddsFront, IsFinal, IsAnswered, IsUnopened, IsUnreadable, IsOverfull, Ran, whole_files, final_status, fault_status}
 use Rattle.suite_run.specs.World.{byte_limit, first_world}
-use Rattle.suite_run.proofs.Running.{files_of, start, Telling, due, Faultless, IsTruthful, Running, telling, added, AddsSome-all, Fronts, due_front, NextFront}
+use Rattle.suite_run.proofs.Running.{files_of, start, Telling, due, Faultless, IsTruthful, Running, telling, added, AddsSome-all, due_front, NextFront}
 use Rattle.suite_run.proofs.Wholes.{whole_files-of, whole_files-append, line_count}
 
 -- ---- what every end leaves
@@ -56,7 +54,7 @@ pub part_front : (names : List (List ℕ)) (f0 : FilesView) (o0 : SinkView) (r :
 part_front names f0 o0 r f o w refused number run text count new within written d =
     let done = blocks 1 first_world run.done in
     let e : take (length done + count) (due names f0) ≡ done ++ take count text =
-        ap (take (length done + count)) d.split ∙ (take-append-add done (text ++ d.rest) count ∙ ap (λ z. done ++ z) (take-append-le count text d.rest within)) in
+    ap (take (length done + count)) d.split ∙ (take-append-add done (text ++ d.rest) count ∙ ap (λ z. done ++ z) (take-append-le count text d.rest within)) in
     let P : List ℕ → Type 0 = λ z. Adds o0.written z new in
     (length done + count, subst P (sym e) (Adds-more o0.written done o.written (take count text) new run.written written))
 
@@ -130,10 +128,10 @@ pub too_many : (names : List (List ℕ)) (f0 : FilesView) (o0 : SinkView) (r : R
 too_many names f0 o0 r f o w refused number run many truthful =
     stopped names f0 o0 InputTooLong f o (λ h. h) (λ e. cc) (leaving names f0 o0 r f o w refused number run truthful r f run.kept) (λ e. cc) (λ e. cc)
     (λ e. AddsSome-weaker f0.told.taken (Took run.done r) (IsOverfull names o0.written o.written) f.told.taken run.stands.taken
-        (λ entries t. absurd (omega (arith, line_count run.done r entries t, run.count, many, run.stands.within, run.kept.task.input_limit))))
+    (λ entries t. absurd (omega (arith, line_count run.done r entries t, run.count, many, run.stands.within, run.kept.task.input_limit))))
     (λ a. absurd (a refl)) (λ e. cc) (λ e. cc) (λ e. cc)
     (λ _ _ t _. let a = added f0.told.taken (Took run.done r) (IsOfContent f.content) f.told.taken run.stands.taken truthful t in
-        absurd (omega (arith, line_count run.done r a.more a.has, run.count, many, run.stands.within, run.kept.task.input_limit)))
+    absurd (omega (arith, line_count run.done r a.more a.has, run.count, many, run.stands.within, run.kept.task.input_limit)))
 
 -- ---- faults of the input
 
@@ -170,7 +168,7 @@ bytes_within : (content content' : List ℕ → List ℕ) (names : List (List �
     byte_count entries ≤ byte_count (whole_files content names)
 bytes_within content content' names r entries taken same kept holds =
     let split : whole_files content' names ≡ whole_files content' (names_of entries) ++ whole_files content' (drop r.begun names) =
-        ap (whole_files content') (sym (take-append-drop r.begun names)) ∙ (whole_files-append content' (take r.begun names) (drop r.begun names) ∙ ap (λ z. whole_files content' z ++ whole_files content' (drop r.begun names)) (sym (taken ∙ ap (take r.begun) same))) in
+    ap (whole_files content') (sym (take-append-drop r.begun names)) ∙ (whole_files-append content' (take r.begun names) (drop r.begun names) ∙ ap (λ z. whole_files content' z ++ whole_files content' (drop r.begun names)) (sym (taken ∙ ap (take r.begun) same))) in
     omega (arith, bytes_taken content' entries holds, ap byte_count split, byte_count-append (whole_files content' (names_of entries)) (whole_files content' (drop r.begun names)), ap (λ z. byte_count (whole_files z names)) kept)
 
 pub rose_more : (a b c : ℕ) → a ≤ b → Rose b c → Rose a c
@@ -190,11 +188,11 @@ line_fault names f0 o0 r f o w refused number run truthful r' f' truthful' kept 
     let most : r'.begun ≤ length names = omega (arith, kept.most, ap length kept.task.names) in
     stopped names f0 o0 OpenFault f' o (λ h. h) (λ e. cc) (leaving names f0 o0 r f o w refused number run truthful r' f' kept)
     (λ e. AddsSome-weaker f0.told.taken (Unopened run.done r') (IsUnopened names f0.told.tried f'.told.tried o0.written o.written) f'.told.taken left
-        (λ entries u.
-            let n = names_by_count entries names r'.names (r'.begun - 1) u.names kept.task.names (omega (arith, most)) in
-            let P : ℕ → Type 0 = λ z. Adds f0.told.tried (take z names) f'.told.tried in
-            let more : r'.begun ≡ length entries + 1 = omega (arith, n.0, some) in
-            record { ended = u.ended; named = n.1; fewer = omega (arith, more, most); tried = subst P more (tried_names names f0 r' f' kept); written = written_lines names f0 o0 r f o w refused number run entries u.lines }))
+    (λ entries u.
+    let n = names_by_count entries names r'.names (r'.begun - 1) u.names kept.task.names (omega (arith, most)) in
+    let P : ℕ → Type 0 = λ z. Adds f0.told.tried (take z names) f'.told.tried in
+    let more : r'.begun ≡ length entries + 1 = omega (arith, n.0, some) in
+    record { ended = u.ended; named = n.1; fewer = omega (arith, more, most); tried = subst P more (tried_names names f0 r' f' kept); written = written_lines names f0 o0 r f o w refused number run entries u.lines }))
     (λ e. cc) (λ e. cc)
     (λ a b. AddsSome-weaker f0.told.taken (Unopened run.done r') (λ entries. byte_count entries ≤ byte_limit) f'.told.taken left (λ entries u. omega (arith, u.within, kept.task.input_limit)))
     (λ e. rose_more f0.faults f.faults f'.faults run.kept.later (begin_cause refl).1) (λ e. cc) (λ e. cc) (λ no _ _ _. absurd (no (rose_more f0.faults f.faults f'.faults run.kept.later (begin_cause refl).1)))
@@ -204,10 +202,10 @@ line_fault names f0 o0 r f o w refused number run truthful r' f' truthful' kept 
     stopped names f0 o0 ReadFault f' o (λ h. h) (λ e. cc) (leaving names f0 o0 r f o w refused number run truthful r' f' kept)
     (λ e. cc)
     (λ e. AddsSome-weaker f0.told.taken (Unreadable run.done r') (IsUnreadable names f0.told.tried f'.told.tried o0.written o.written) f'.told.taken left
-        (λ entries u.
-            let n = names_by_count entries names r'.names r'.begun u.names kept.task.names most in
-            let P : List (List ℕ) → Type 0 = λ z. Adds f0.told.tried z f'.told.tried in
-            record { cut = u.cut; named = n.1; tried = subst P (sym (u.names ∙ ap (take r'.begun) kept.task.names)) (tried_names names f0 r' f' kept); written = written_lines names f0 o0 r f o w refused number run entries u.lines }))
+    (λ entries u.
+    let n = names_by_count entries names r'.names r'.begun u.names kept.task.names most in
+    let P : List (List ℕ) → Type 0 = λ z. Adds f0.told.tried z f'.told.tried in
+    record { cut = u.cut; named = n.1; tried = subst P (sym (u.names ∙ ap (take r'.begun) kept.task.names)) (tried_names names f0 r' f' kept); written = written_lines names f0 o0 r f o w refused number run entries u.lines }))
     (λ e. cc)
     (λ a b. AddsSome-weaker f0.told.taken (Unreadable run.done r') (λ entries. byte_count entries ≤ byte_limit) f'.told.taken left (λ entries u. omega (arith, u.within, kept.task.input_limit)))
     (λ e. cc) (λ e. rose_more f0.faults f.faults f'.faults run.kept.later (read_cause refl).1) (λ e. cc) (λ no _ _ _. absurd (no (rose_more f0.faults f.faults f'.faults run.kept.later (read_cause refl).1)))
@@ -217,13 +215,16 @@ line_fault names f0 o0 r f o w refused number run truthful r' f' truthful' kept 
     stopped names f0 o0 InputTooLong f' o (λ h. h) (λ e. cc) (leaving names f0 o0 r f o w refused number run truthful r' f' kept)
     (λ e. cc) (λ e. cc)
     (λ e. AddsSome-weaker f0.told.taken (Overfull run.done r') (IsOverfull names o0.written o.written) f'.told.taken left
-        (λ entries u.
-            let n = names_by_count entries names r'.names r'.begun u.names kept.task.names most in
-            record { named = n.1; over = u.over ∙ ap (λ z. z + 1) kept.task.input_limit;
-              written = written_lines names f0 o0 r f o w refused number run (first_bytes byte_limit entries) (ap (λ z. whole_lines (first_bytes z entries)) (sym kept.task.input_limit) ∙ u.lines) }))
+    (λ entries u.
+    let n = names_by_count entries names r'.names r'.begun u.names kept.task.names most in
+    record {
+      named = n.1;
+      over = u.over ∙ ap (λ z. z + 1) kept.task.input_limit;
+      written = written_lines names f0 o0 r f o w refused number run (first_bytes byte_limit entries) (ap (λ z. whole_lines (first_bytes z entries)) (sym kept.task.input_limit) ∙ u.lines);
+    }))
     (λ a. absurd (a refl)) (λ e. cc) (λ e. cc) (λ e. cc)
     (λ _ _ t within. let a = added f0.told.taken (Overfull run.done r') (IsOfContent f'.content) f'.told.taken left truthful' t in
-        absurd (omega (arith, a.has.over, kept.task.input_limit, within, bytes_within f0.content f'.content names r' a.more a.has.names kept.task.names kept.content a.all)))
+    absurd (omega (arith, a.has.over, kept.task.input_limit, within, bytes_within f0.content f'.content names r' a.more a.has.names kept.task.names kept.content a.all)))
 
 -- ---- the end
 
@@ -236,9 +237,9 @@ pub finished : (names : List (List ℕ)) (f0 : FilesView) (o0 : SinkView) (r : R
 finished names f0 o0 r f o w refused number run truthful r' f' kept leaves truthful' =
     let left = AddsSome-all f0.told.taken (IsFinished run.done r') (IsOfContent f'.content) f'.told.taken (leaves f0.told run.done run.stands) truthful' in
     let entries_are : (entries : List Entry) → IsFinished run.done r' entries × All (IsOfContent f'.content) entries → entries ≡ whole_files f0.content names =
-        λ entries u. whole_files-of f'.content entries u.0.ended u.1 ∙ (ap (whole_files f'.content) (u.0.names ∙ kept.task.names) ∙ ap (λ z. whole_files z names) kept.content) in
+    λ entries u. whole_files-of f'.content entries u.0.ended u.1 ∙ (ap (whole_files f'.content) (u.0.names ∙ kept.task.names) ∙ ap (λ z. whole_files z names) kept.content) in
     let lines : IsSome f'.told.taken → whole_lines (whole_files f0.content names) ≡ run.done =
-        λ t. told_lines f0.told.taken f'.told.taken left entries_are t in
+    λ t. told_lines f0.told.taken f'.told.taken left entries_are t in
     let l = leaving names f0 o0 r f o w refused number run truthful r' f' kept in
     record {
       words = final_words refused;
@@ -268,17 +269,21 @@ finished names f0 o0 r f o w refused number run truthful r' f' kept leaves truth
     answered : (b : Bool) → IsAnswered (final_status b)
     answered true = tt
     answered false = tt
+
     final_words : (b : Bool) → final_status b ≡ BadWords → ⊥
     final_words true e = cc
     final_words false e = cc
+
     final_is : (b : Bool) (s : Status) → final_status b ≡ s → (IsFinal s → ⊥) → ⊥
     final_is true s e h = h (subst IsFinal e tt)
     final_is false s e h = h (subst IsFinal e tt)
+
     told_lines : (a b : Option (List Entry)) → AddsSome a (λ entries. IsFinished run.done r' entries × All (IsOfContent f'.content) entries) b →
         ((entries : List Entry) → IsFinished run.done r' entries × All (IsOfContent f'.content) entries → entries ≡ whole_files f0.content names) → IsSome b → whole_lines (whole_files f0.content names) ≡ run.done
     told_lines a None s e t = cc
     told_lines None (Some b) s e t = absurd s
     told_lines (Some a) (Some b) s e t = ap whole_lines (sym (e s.0 s.2)) ∙ s.2.0.lines
+
     AddsSome-is : {A : Type 0} (a : Option (List A)) (P : List A → Type 0) (x : List A) (b : Option (List A)) → AddsSome a P b → ((more : List A) → P more → more ≡ x) → Adds a x b
     AddsSome-is a P x None s e = tt
     AddsSome-is None P x (Some b) s e = absurd s

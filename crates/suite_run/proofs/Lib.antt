@@ -3,3 +3,4 @@ pub mod Revisions
 pub mod Running
 pub mod Wholes
 pub mod Saying
+pub mod RefusedLines

@@ -1,5 +1,5 @@
 -- A line makes at most one revision.
-use Rattle.std.proofs.Common.{◌≡◌, ℕ, ◌+◌, ◌≤◌, Bool, true, false, Result, Ok, Err, arith}
+use Rattle.std.proofs.Common.{◌+◌, ◌≤◌, Bool, true, false, Result, Ok, Err, arith}
 use Rattle.cluster_objects.specs.declared.change.Applied.{Applied}
 use Rattle.cluster_objects.specs.declared.change.Applied.TheVariants.{Changed, Unchanged}
 use Rattle.cluster_objects.specs.declared.change.ClusterRefusal.{ClusterRefusal}

@@ -1,11 +1,10 @@
 -- A run over lines, between two of them.
-use Rattle.std.proofs.Common.{◌≡◌, ℕ, zero, suc, ◌+◌, ◌-◌, ◌<◌, ◌≤◌, Bool, true, false, ◌||◌, IsTrue, Option, Some, None, IsSome, IfSome, Result, Ok, Err, IsOk, IsErr, OnOk, OnErr, List, [], ◌∷◌, ◌++◌, length, take, drop, All, refl, sym, ap, ◌∙◌, append_assoc, append-nil, subst, arith, rules, length-append}
-use Rattle.std.proofs.Math.Seq.{take-append_seam, take-append-add}
-use Rattle.std.proofs.lemmas.List.{take_all, take-append-le, get_or-append-add}
+use Rattle.std.proofs.Common.{◌≡◌, ℕ, ◌+◌, ◌≤◌, Bool, true, false, ◌||◌, IsTrue, Option, Some, None, IsSome, IfSome, Result, Ok, Err, IsOk, IsErr, OnOk, OnErr, List, [], ◌∷◌, ◌++◌, length, take, All, refl, sym, ap, ◌∙◌, append_assoc, append-nil, subst, arith, length-append}
+use Rattle.std.proofs.lemmas.List.{take_all, get_or-append-add}
 use Rattle.cl_io.specs.declared.lines.Line.{Line}
 use Rattle.cl_io.specs.declared.lines.Line.TheVariants.{Whole, TooLong, End}
-use Rattle.cl_io.specs.Answers.{Hands, KeepsLimit, GoesOn}
-use Rattle.cl_io.specs.Files.{Entry, IsOfContent, names_of, byte_count}
+use Rattle.cl_io.specs.Answers.{Hands}
+use Rattle.cl_io.specs.Files.{Entry, IsOfContent}
 use Rattle.cl_io.specs.Lines.{whole_lines}
 use Rattle.cl_io.specs.Reading.{Reading, Told, reading_of, Took, Stands}
 use Rattle.cl_io.specs.Sink.{Lowers, Takes}
@@ -13,15 +12,13 @@ use Rattle.cl_io.specs.Telling.{Adds, AddsSome, StaysTold}
 use Rattle.cl_io.proofs.Nexting.{Outside, Kept, Kept-none}
 use Rattle.cl_io.proofs.Putting.{Adds-none, Adds-more, Lowers-none, Lowers-more}
 use Rattle.suite_run.specs.declared.blocks.Block.{Block}
-use Rattle.suite_run.specs.declared.said.Said.{Said}
-use Rattle.suite_run.specs.declared.said.Said.TheVariants as said_
 use Rattle.suite_run.specs.declared.world.World.{World}
 use Rattle.suite_run.specs.Blocks.{block_text, world_after, blocks, has_refusal, out_of}
-use Rattle.suite_run.specs.Run.{FilesView, SinkView, IsTelling, AddsFront, whole_files}
+use Rattle.suite_run.specs.Run.{FilesView, SinkView, IsTelling, whole_files}
 use Rattle.suite_run.specs.Shown.{Follows}
 use Rattle.suite_run.specs.World.{byte_limit, first_world, said, step, is_refusal, outcome, happens}
 use Rattle.suite_run.proofs.Revisions.{revision-step}
-use Rattle.suite_run.proofs.Wholes.{Begins, Begins-all, world_after-append, blocks-append, has_refusal-append}
+use Rattle.suite_run.proofs.Wholes.{Begins-all, world_after-append, blocks-append, has_refusal-append}
 
 abbrev pub files_of : FilesView → Outside
 files_of f = record { told = f.told; places = f.places; faults = f.faults; steady = f.steady; content = f.content; knows = f.knows; there = f.there }
@@ -124,7 +121,7 @@ due_front names f0 r f done kept stands truthful tells =
     let a = added f0.told.taken (Took done r) (IsOfContent f.content) f.told.taken stands.taken truthful (telling names f0 r f kept tells).1 in
     let b = Begins-all f.content done r a.more a.has a.all in
     let lines : whole_lines (whole_files f0.content names) ≡ done ++ b.rest =
-        ap (λ z. whole_lines (whole_files z names)) (sym kept.content) ∙ (ap (λ z. whole_lines (whole_files f.content z)) (sym kept.task.names) ∙ b.split) in
+    ap (λ z. whole_lines (whole_files z names)) (sym kept.content) ∙ (ap (λ z. whole_lines (whole_files f.content z)) (sym kept.task.names) ∙ b.split) in
     record {
       rest = blocks (1 + length done) (world_after first_world done) b.rest;
       split = ap (blocks 1 first_world) lines ∙ blocks-append 1 first_world done b.rest;
@@ -154,7 +151,7 @@ next_blocks : (done : List (List ℕ)) (bytes : List ℕ) (number : ℕ) (w : Wo
 next_blocks done bytes number w text count world_is e =
     let n : 1 + length done ≡ number = omega (arith, count) in
     let here : block_text (1 + length done) (outcome (world_after first_world done) bytes) ++ [] ≡ text =
-        append-nil (block_text (1 + length done) (outcome (world_after first_world done) bytes)) ∙ (ap (λ z. block_text z (outcome (world_after first_world done) bytes)) n ∙ (ap (λ z. block_text number (outcome z bytes)) (sym world_is) ∙ sym e)) in
+    append-nil (block_text (1 + length done) (outcome (world_after first_world done) bytes)) ∙ (ap (λ z. block_text z (outcome (world_after first_world done) bytes)) n ∙ (ap (λ z. block_text number (outcome z bytes)) (sym world_is) ∙ sym e)) in
     blocks-append 1 first_world done (bytes ∷ []) ∙ ap (λ z. blocks 1 first_world done ++ z) here
 
 -- with room for all, there was room for the text
@@ -183,7 +180,7 @@ pub next_faultless : (names : List (List ℕ)) (f0 : FilesView) (o0 : SinkView) 
 next_faultless names f0 o0 r f o w refused number run text o' front put = λ s t.
     let d = front t in
     let fits : length (blocks 1 first_world run.done) + length text ≤ length (due names f0) =
-        omega (arith, ap length d.split, length-append (blocks 1 first_world run.done) (text ++ d.rest), length-append text d.rest) in
+    omega (arith, ap length d.split, length-append (blocks 1 first_world run.done) (text ++ d.rest), length-append text d.rest) in
     room_left o0.free o.free _ _ _ _ _ _ fits run.free (run.faultless s t) (put (run.steady s))
 
 pub Running-more : (names : List (List ℕ)) (f0 : FilesView) (o0 : SinkView) (r : Reading) (f : FilesView) (o : SinkView) (w : World) (refused : Bool) (number : ℕ) (run : Running names f0 o0 r f o w refused number)

@@ -1,17 +1,17 @@
 -- Lines that were handed out, among all lines of files, and their blocks.
-use Rattle.std.proofs.Common.{◌≡◌, ℕ, suc, ◌+◌, ◌-◌, ◌<◌, ◌≤◌, Bool, true, false, ◌||◌, eqb, cond, IsTrue, MatchBool, Option, Some, None, List, [], ◌∷◌, ◌++◌, length, take, drop, All, refl, sym, ap, ◌∙◌, append_assoc, append-nil, subst, arith, rules, length-append}
+use Rattle.std.proofs.Common.{◌≡◌, ℕ, suc, ◌+◌, ◌≤◌, Bool, true, false, ◌||◌, eqb, cond, MatchBool, List, [], ◌∷◌, ◌++◌, length, take, drop, All, refl, sym, ap, ◌∙◌, append_assoc, append-nil, subst, arith, length-append}
 use Rattle.std.proofs.Math.ListN.{get_or-append}
 use Rattle.std.proofs.Math.Seq.{get_or-append_seam}
 use Rattle.std.proofs.lemmas.List.{take-append-drop}
 use Rattle.std.proofs.lemmas.List.Elements.{All-head, All-tail}
 use Rattle.cl_io.specs.Files.{Entry, IsOfContent, IsEnded, names_of, byte_count}
 use Rattle.cl_io.specs.Lines.{lines_of, led_by, whole_lines}
-use Rattle.cl_io.specs.Reading.{Reading, IsCutShort, IsBetween, IsAmid, Took}
+use Rattle.cl_io.specs.Reading.{Reading, IsBetween, IsAmid, Took}
 use Rattle.cl_io.proofs.Feeds.{whole_lines-append, names_of-append, byte_count-append}
 use Rattle.suite_run.specs.declared.world.World.{World}
-use Rattle.suite_run.specs.Blocks.{block_text, world_after, blocks, has_refusal, out_of, any_refused}
+use Rattle.suite_run.specs.Blocks.{block_text, world_after, blocks, has_refusal}
 use Rattle.suite_run.specs.Run.{whole_files}
-use Rattle.suite_run.specs.World.{is_refusal, first_world, outcome, happens}
+use Rattle.suite_run.specs.World.{is_refusal, outcome, happens}
 
 -- ---- files
 
@@ -60,7 +60,7 @@ Begins-took content true done pending entries holds a =
     let begins = (All-last (IsOfContent content) earlier last all).begins in
     let names : names_of entries ≡ names_of earlier ++ last.name ∷ [] = ap names_of a.cut.split ∙ names_of-append earlier (last ∷ []) in
     let files : whole_files content (names_of entries) ≡ earlier ++ record { name = last.name; bytes = content last.name; ended = true } ∷ [] =
-        ap (whole_files content) names ∙ (whole_files-append content (names_of earlier) (last.name ∷ []) ∙ ap (λ z. z ++ record { name = last.name; bytes = content last.name; ended = true } ∷ []) (sym was)) in
+    ap (whole_files content) names ∙ (whole_files-append content (names_of earlier) (last.name ∷ []) ∙ ap (λ z. z ++ record { name = last.name; bytes = content last.name; ended = true } ∷ []) (sym was)) in
     let ends : lines_of true (content last.name) ++ [] ≡ lines_of true (last.bytes ++ begins.0) = append-nil (lines_of true (content last.name)) ∙ ap (lines_of true) begins.1 in
     record {
       rest = lines_of true (pending ++ begins.0);
@@ -72,7 +72,7 @@ Begins-all content done r entries t holds =
     let b = Begins-took content r.amid done r.pending entries holds t.lines in
     let left = whole_files content (drop r.begun r.names) in
     let files : whole_files content r.names ≡ whole_files content (names_of entries) ++ left =
-        ap (whole_files content) (sym (take-append-drop r.begun r.names)) ∙ (whole_files-append content (take r.begun r.names) (drop r.begun r.names) ∙ ap (λ z. whole_files content z ++ left) (sym t.names)) in
+    ap (whole_files content) (sym (take-append-drop r.begun r.names)) ∙ (whole_files-append content (take r.begun r.names) (drop r.begun r.names) ∙ ap (λ z. whole_files content z ++ left) (sym t.names)) in
     record {
       rest = b.rest ++ whole_lines left;
       split = ap whole_lines files ∙ (whole_lines-append (whole_files content (names_of entries)) left ∙ (ap (λ z. z ++ whole_lines left) b.split ∙ append_assoc done b.rest (whole_lines left)));

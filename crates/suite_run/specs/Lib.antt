@@ -1,6 +1,7 @@
 pub mod Blocks
 pub mod Exit
 pub mod Item
+pub mod Laws
 pub mod ReadLine
 pub mod Run
 pub mod Shown

@@ -1,5 +1,5 @@
 -- What a run over files leaves of the files and of the sink (this project's own). Of what isn't told nothing is known.
-use Rattle.std.specs.Prelude.{◌≡◌, ℕ, ◌+◌, ◌<◌, ◌≤◌, Option, Some, None, IsSome, IfSome, List, [], ◌∷◌, length, take, All, ⊤, Bool, true, false, IsTrue}
+use Rattle.std.specs.Prelude.{◌≡◌, ℕ, ◌+◌, ◌<◌, ◌≤◌, Option, IsSome, IfSome, List, [], ◌∷◌, length, take, All, ⊤, Bool, true, false, IsTrue}
 use Rattle.cl_io.specs.declared.lines.LineFault.{LineFault}
 use Rattle.cl_io.specs.declared.lines.LineFault.TheVariants as fault
 use Rattle.cl_io.specs.Causes.{Rose}
@@ -101,19 +101,16 @@ pub record IsOverfull (names : List (List ℕ)) (bytes bytes' : Option (List ℕ
 -- What a run over the files of these names leaves, by its status.
 pub record Ran (names : List (List ℕ)) (files : FilesView) (sink : SinkView) (status : Status) (files' : FilesView) (sink' : SinkView) : Type 0 where
   pub words : status ≡ BadWords → ⊥
-
   -- the whole output
   pub taken : IsFinal status → Adds files.told.taken (whole_files files.content names) files'.told.taken
   pub written : IsFinal status → IsSome files'.told.taken → Adds sink.written (out_of (whole_files files.content names)) sink'.written
   pub refused : IsFinal status → IsSome files'.told.taken → status ≡ final_status (any_refused (whole_files files.content names))
-
   -- a part of it
   pub unopened : status ≡ OpenFault → AddsSome files.told.taken (IsUnopened names files.told.tried files'.told.tried sink.written sink'.written) files'.told.taken
   pub unreadable : status ≡ ReadFault → AddsSome files.told.taken (IsUnreadable names files.told.tried files'.told.tried sink.written sink'.written) files'.told.taken
   pub overfull : status ≡ InputTooLong → AddsSome files.told.taken (IsOverfull names sink.written sink'.written) files'.told.taken
   pub within : (status ≡ InputTooLong → ⊥) → (status ≡ NoMemory → ⊥) → AddsSome files.told.taken (λ entries. byte_count entries ≤ byte_limit) files'.told.taken
   pub front : IsTelling names files.knows files.places files.told.taken → AddsFront sink.written (out_of (whole_files files.content names)) sink'.written
-
   -- causes of failures
   pub open_cause : status ≡ OpenFault → Rose files.faults files'.faults
   pub read_cause : status ≡ ReadFault → Rose files.faults files'.faults
@@ -125,7 +122,6 @@ pub record Ran (names : List (List ℕ)) (files : FilesView) (sink : SinkView) (
   pub faultless : IsTrue files.steady → All (λ name. IsTrue (files.there name)) names → files'.faults ≡ files.faults
   pub sink_faultless : IsTrue sink.steady → IsTelling names files.knows files.places files.told.taken
       → IfSome sink.free (λ room. length (out_of (whole_files files.content names)) ≤ room → sink'.faults ≡ sink.faults)
-
   -- what is told
   pub tried_told : IsTelling names files.knows files.places files.told.taken → StaysTold files.told.tried files'.told.tried
   pub taken_told : IsTelling names files.knows files.places files.told.taken → IsSome files'.told.taken

@@ -1,7 +1,6 @@
 -- What is known between two lines, what a line changes in it, and what is told of the line (this project's own).
-use Rattle.std.specs.Prelude.{ℕ, ◌+◌, List, [], ◌∷◌, length, Bool, true, false, ◌&&◌, ◌||◌, nat_lt, if◌then◌else◌, Result, Ok, Err}
+use Rattle.std.specs.Prelude.{ℕ, ◌+◌, List, length, Bool, true, false, ◌&&◌, nat_lt, if◌then◌else◌, Result, Ok, Err}
 use Rattle.std.specs.List.{list_any}
-use Rattle.cl_types.specs.declared.keys.PodKey.{PodKey}
 use Rattle.cl_types.specs.Equality.{text_eq}
 use Rattle.cl_types.specs.Judgement.{Judgement}
 use Rattle.cluster_objects.specs.declared.change.Applied.{Applied}

@@ -7,9 +7,7 @@ ghost use Rattle.suite_run.specs.World.{is_refusal};
 
 use crate::said::Refusal;
 use crate::world::Answer;
-use cl_types::{
-    NoMemory, Text, write_bytes, write_judged, write_number, write_pod,
-};
+use cl_types::{NoMemory, Text, write_bytes, write_judged, write_number, write_pod};
 use std::alloc::Global;
 
 /// What is printed of a line, and whether it says that the line is refused.

@@ -2,17 +2,22 @@
 #![tactic(auto)]
 
 mod blocks;
-mod top;
 mod item;
-mod turn;
+mod laws;
 mod reader;
 mod replay;
 mod said;
 mod site;
 mod status;
+mod top;
+mod turn;
 mod words;
 mod world;
 
-pub use top::calm;
+pub use laws::refused_lines_change_nothing;
 pub use site::Site;
 pub use status::Status;
+pub use top::calm;
+
+#[cfg(test)]
+mod tests;

@@ -22,7 +22,10 @@ pub(crate) fn complain<E: Sink>(err: &mut E, status: Status, name: &[u8])
     ensures { Says (complaint status name.now) (E.faults err.old) (E.written err.old) (E.faults err.new) (E.written err.new) }
 {
     match status {
-        Status::BadWords => say(err, b"usage: antrea check FILE... | replay [--ring N] FILE... | live [--ring N] FILE... | drill N\n"),
+        Status::BadWords => say(
+            err,
+            b"usage: antrea check FILE... | replay [--ring N] FILE... | live [--ring N] FILE... | drill N\n",
+        ),
         Status::OpenFault => say_of(err, b"antrea: cannot open ", name),
         Status::ReadFault => say_of(err, b"antrea: cannot read ", name),
         Status::InputTooLong => say(err, b"antrea: input too long\n"),

@@ -93,7 +93,10 @@ impl World {
         ensures { outcome_of result ≡ answer self.now ask.now }
     {
         if self.is_listed(&ask.node) {
-            Answer::Controller(self.revision, judge(&self.cluster, &ask.node, &ask.question))
+            Answer::Controller(
+                self.revision,
+                judge(&self.cluster, &ask.node, &ask.question),
+            )
         } else {
             Answer::Refused(Refusal::NoNode)
         }

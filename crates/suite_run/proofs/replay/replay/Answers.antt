@@ -1,4 +1,4 @@
-use Rattle.std.proofs.Common.{rules, ◌≡◌, ◌≤◌, ℕ, ◌||◌, subst, sym, ap, ◌∙◌, refl, arith, Ok, Err, List, [], ◌∷◌, ◌++◌, length, IsTrue, IfSome}
+use Rattle.std.proofs.Common.{rules, ◌≡◌, ◌≤◌, ℕ, subst, sym, ap, arith, Ok, Err, List, [], ◌∷◌, ◌++◌, length, IsTrue, IfSome}
 use Rattle.cl_io.specs.declared.lines.Line.TheVariants.{End}
 use Rattle.cl_io.specs.Answers.{KeepsLimit}
 use Rattle.cl_io.specs.Reading.{told}

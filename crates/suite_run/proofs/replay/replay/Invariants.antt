@@ -1,5 +1,4 @@
 use Rattle.cl_io.specs.Reading.{told}
-use Rattle.suite_run.specs.Run.{FilesView, SinkView}
 use Rattle.suite_run.proofs.Running.{Running}
 use Rattle.suite_run.proofs.replay.replay.Given as goal
 
