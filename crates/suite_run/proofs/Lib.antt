@@ -1,0 +1,6 @@
+pub mod Ending
+pub mod Revisions
+pub mod Running
+pub mod Wholes
+pub mod Saying
+pub mod RefusedLines

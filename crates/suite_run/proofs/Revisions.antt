@@ -1,0 +1,29 @@
+-- A line makes at most one revision.
+use Rattle.std.proofs.Common.{◌+◌, ◌≤◌, Bool, true, false, Result, Ok, Err, arith}
+use Rattle.cluster_objects.specs.declared.change.Applied.{Applied}
+use Rattle.cluster_objects.specs.declared.change.Applied.TheVariants.{Changed, Unchanged}
+use Rattle.cluster_objects.specs.declared.change.ClusterRefusal.{ClusterRefusal}
+use Rattle.cluster_objects.specs.declared.change.ClusterRefusal.TheVariants as cluster
+use Rattle.cluster_objects.specs.Apply.{apply, Outcome}
+use Rattle.suite_run.specs.declared.said.Said.{Said}
+use Rattle.suite_run.specs.declared.said.Said.TheVariants.{Object, Question, Blank, Refused}
+use Rattle.suite_run.specs.declared.world.World.{World}
+use Rattle.suite_run.specs.World.{step, changes, applied, is_node}
+
+revision-applied : (node : Bool) (w : World) (a : Applied) → (applied node w a).world.revision ≤ w.revision + 1
+revision-applied node w Unchanged = omega arith
+revision-applied true w Changed = omega arith
+revision-applied false w Changed = omega arith
+
+revision-changes : (node : Bool) (w : World) (r : Result Outcome ClusterRefusal) → (changes node w r).world.revision ≤ w.revision + 1
+revision-changes node w (Ok o) = revision-applied node (record w { cluster = o.cluster }) o.applied
+revision-changes node w (Err cluster.NodesFixed) = omega arith
+revision-changes node w (Err (cluster.AddressInUse pod)) = omega arith
+revision-changes node w (Err cluster.NoMemory) = omega arith
+
+pub revision-step : (w : World) (s : Said) → (step w s).world.revision ≤ w.revision + 1
+unfolding step
+revision-step w (Object change) = revision-changes (is_node change) w (apply w.cluster change)
+revision-step w (Question ask) = omega arith
+revision-step w Blank = omega arith
+revision-step w (Refused r) = omega arith

@@ -1,0 +1,135 @@
+-- Lines that were handed out, among all lines of files, and their blocks.
+use Rattle.std.proofs.Common.{◌≡◌, ℕ, suc, ◌+◌, ◌≤◌, Bool, true, false, ◌||◌, eqb, cond, MatchBool, List, [], ◌∷◌, ◌++◌, length, take, drop, All, refl, sym, ap, ◌∙◌, append_assoc, append-nil, subst, arith, length-append}
+use Rattle.std.proofs.Math.ListN.{get_or-append}
+use Rattle.std.proofs.Math.Seq.{get_or-append_seam}
+use Rattle.std.proofs.lemmas.List.{take-append-drop}
+use Rattle.std.proofs.lemmas.List.Elements.{All-head, All-tail}
+use Rattle.cl_io.specs.Files.{Entry, IsOfContent, IsEnded, names_of, byte_count}
+use Rattle.cl_io.specs.Lines.{lines_of, led_by, whole_lines}
+use Rattle.cl_io.specs.Reading.{Reading, IsBetween, IsAmid, Took}
+use Rattle.cl_io.proofs.Feeds.{whole_lines-append, names_of-append, byte_count-append}
+use Rattle.suite_run.specs.declared.world.World.{World}
+use Rattle.suite_run.specs.Blocks.{block_text, world_after, blocks, has_refusal}
+use Rattle.suite_run.specs.Run.{whole_files}
+use Rattle.suite_run.specs.World.{is_refusal, outcome, happens}
+
+-- ---- files
+
+pub All-front : {A : Type 0} (P : A → Type 0) (xs ys : List A) → All P (xs ++ ys) → All P xs
+All-front P xs ys h = λ k d lt. subst P (get_or-append xs ys d k lt) (h k d (omega (arith, lt, length-append xs ys)))
+
+pub All-last : {A : Type 0} (P : A → Type 0) (xs : List A) (y : A) → All P (xs ++ y ∷ []) → P y
+All-last P xs y h = subst P (get_or-append_seam xs y [] y) (h (length xs) y (omega (arith, length-append xs (y ∷ []))))
+
+entry_is : (entry : Entry) (bytes : List ℕ) (ended : Bool) → entry.bytes ≡ bytes → entry.ended ≡ ended → entry ≡ record { name = entry.name; bytes = bytes; ended = ended }
+entry_is entry bytes ended p q =
+    let first : List ℕ → Entry = λ z. record { name = entry.name; bytes = z; ended = entry.ended } in
+    let second : Bool → Entry = λ z. record { name = entry.name; bytes = bytes; ended = z } in
+    ap first p ∙ ap second q
+
+-- files read to their end have their whole bytes
+pub whole_files-of : (content : List ℕ → List ℕ) (entries : List Entry) → All IsEnded entries → All (IsOfContent content) entries → entries ≡ whole_files content (names_of entries)
+whole_files-of content [] ended true_ = refl
+whole_files-of content (entry ∷ entries) ended holds =
+    let e : entry.ended ≡ true = All-head IsEnded entry entries ended in
+    let c = All-head (IsOfContent content) entry entries holds in
+    let whole : entry.bytes ≡ content entry.name = c.whole e in
+    let rest = whole_files-of content entries (All-tail IsEnded entry entries ended) (All-tail (IsOfContent content) entry entries holds) in
+    ap (λ z. z ∷ entries) (entry_is entry (content entry.name) true whole e) ∙ ap (λ z. record { name = entry.name; bytes = content entry.name; ended = true } ∷ z) rest
+
+pub whole_files-append : (content : List ℕ → List ℕ) (xs ys : List (List ℕ)) → whole_files content (xs ++ ys) ≡ whole_files content xs ++ whole_files content ys
+whole_files-append content [] ys = refl
+whole_files-append content (x ∷ xs) ys = ap (λ z. record { name = x; bytes = content x; ended = true } ∷ z) (whole_files-append content xs ys)
+
+-- ---- the lines handed out begin all lines
+
+pub record Begins (done all : List (List ℕ)) : Type 0 where
+  pub rest : List (List ℕ)
+  pub split : all ≡ done ++ rest
+
+Begins-took : (content : List ℕ → List ℕ) (amid : Bool) (done : List (List ℕ)) (pending : List ℕ) (entries : List Entry) → All (IsOfContent content) entries →
+    MatchBool amid (IsAmid done pending entries) (IsBetween done pending entries) → Begins done (whole_lines (whole_files content (names_of entries)))
+Begins-took content false done pending entries holds b =
+    record { rest = []; split = ap whole_lines (sym (whole_files-of content entries b.ended holds)) ∙ (b.lines ∙ sym (append-nil done)) }
+Begins-took content true done pending entries holds a =
+    let earlier = a.cut.earlier in
+    let last = a.cut.last in
+    let P : List Entry → Type 0 = All (IsOfContent content) in
+    let all = subst P a.cut.split holds in
+    let was = whole_files-of content earlier a.cut.ended (All-front (IsOfContent content) earlier (last ∷ []) all) in
+    let begins = (All-last (IsOfContent content) earlier last all).begins in
+    let names : names_of entries ≡ names_of earlier ++ last.name ∷ [] = ap names_of a.cut.split ∙ names_of-append earlier (last ∷ []) in
+    let files : whole_files content (names_of entries) ≡ earlier ++ record { name = last.name; bytes = content last.name; ended = true } ∷ [] =
+    ap (whole_files content) names ∙ (whole_files-append content (names_of earlier) (last.name ∷ []) ∙ ap (λ z. z ++ record { name = last.name; bytes = content last.name; ended = true } ∷ []) (sym was)) in
+    let ends : lines_of true (content last.name) ++ [] ≡ lines_of true (last.bytes ++ begins.0) = append-nil (lines_of true (content last.name)) ∙ ap (lines_of true) begins.1 in
+    record {
+      rest = lines_of true (pending ++ begins.0);
+      split = ap whole_lines files ∙ (whole_lines-append earlier (record { name = last.name; bytes = content last.name; ended = true } ∷ []) ∙ (ap (λ z. whole_lines earlier ++ z) ends ∙ a.lines begins.0 true));
+    }
+
+pub Begins-all : (content : List ℕ → List ℕ) (done : List (List ℕ)) (r : Reading) (entries : List Entry) → Took done r entries → All (IsOfContent content) entries → Begins done (whole_lines (whole_files content r.names))
+Begins-all content done r entries t holds =
+    let b = Begins-took content r.amid done r.pending entries holds t.lines in
+    let left = whole_files content (drop r.begun r.names) in
+    let files : whole_files content r.names ≡ whole_files content (names_of entries) ++ left =
+    ap (whole_files content) (sym (take-append-drop r.begun r.names)) ∙ (whole_files-append content (take r.begun r.names) (drop r.begun r.names) ∙ ap (λ z. whole_files content z ++ left) (sym t.names)) in
+    record {
+      rest = b.rest ++ whole_lines left;
+      split = ap whole_lines files ∙ (whole_lines-append (whole_files content (names_of entries)) left ∙ (ap (λ z. z ++ whole_lines left) b.split ∙ append_assoc done b.rest (whole_lines left)));
+    }
+
+-- ---- a line takes a byte or ends a file
+
+length-led_by : (ended : Bool) (byte : ℕ) (lines : List (List ℕ)) → length (led_by ended byte lines) ≤ length lines + 1
+length-led_by ended byte (line ∷ lines) = omega arith
+length-led_by true byte [] = omega arith
+length-led_by false byte [] = omega arith
+
+length-fed : (feed ended : Bool) (byte : ℕ) (lines : List (List ℕ)) (n : ℕ) → length lines ≤ n → length (cond feed ([] ∷ lines) (led_by ended byte lines)) ≤ suc n
+length-fed true ended byte lines n h = omega arith
+length-fed false ended byte lines n h = omega (arith, h, length-led_by ended byte lines)
+
+length-lines_of : (ended : Bool) (bytes : List ℕ) → length (lines_of ended bytes) ≤ length bytes
+length-lines_of ended [] = omega arith
+length-lines_of ended (byte ∷ bytes) = length-fed (eqb byte 10) ended byte (lines_of ended bytes) (length bytes) (length-lines_of ended bytes)
+
+length-whole_lines : (entries : List Entry) → length (whole_lines entries) ≤ byte_count entries
+length-whole_lines [] = omega arith
+length-whole_lines (entry ∷ entries) =
+    omega (arith, length-append (lines_of entry.ended entry.bytes) (whole_lines entries), length-lines_of entry.ended entry.bytes, length-whole_lines entries)
+
+count-took : (amid : Bool) (done : List (List ℕ)) (pending : List ℕ) (entries : List Entry) → MatchBool amid (IsAmid done pending entries) (IsBetween done pending entries) → length done ≤ byte_count entries
+count-took false done pending entries b = omega (arith, ap length b.lines, length-whole_lines entries)
+count-took true done pending entries a =
+    let earlier = a.cut.earlier in
+    let last = a.cut.last in
+    omega (arith, ap length (a.lines [] true), length-append (whole_lines earlier) (lines_of true (last.bytes ++ [])), length-append done (lines_of true (pending ++ [])), length-lines_of true (last.bytes ++ []), length-append last.bytes [], length-whole_lines earlier, ap byte_count a.cut.split, byte_count-append earlier (last ∷ []))
+
+pub line_count : (done : List (List ℕ)) (r : Reading) (entries : List Entry) → Took done r entries → length done ≤ r.total
+line_count done r entries t = omega (arith, count-took r.amid done r.pending entries t.lines, t.bytes)
+
+-- ---- blocks of more lines
+
+pub world_after-append : (w : World) (xs ys : List (List ℕ)) → world_after w (xs ++ ys) ≡ world_after (world_after w xs) ys
+world_after-append w [] ys = refl
+world_after-append w (x ∷ xs) ys = world_after-append (happens w x) xs ys
+
+pub blocks-append : (n : ℕ) (w : World) (xs ys : List (List ℕ)) → blocks n w (xs ++ ys) ≡ blocks n w xs ++ blocks (n + length xs) (world_after w xs) ys
+blocks-append n w [] ys = ap (λ k. blocks k w ys) (omega arith)
+blocks-append n w (x ∷ xs) ys =
+    let e : n + 1 + length xs ≡ n + length (x ∷ xs) = omega arith in
+    ap (λ z. block_text n (outcome w x) ++ z) (blocks-append (n + 1) (happens w x) xs ys ∙ ap (λ k. blocks (n + 1) (happens w x) xs ++ blocks k (world_after (happens w x) xs) ys) e)
+    ∙ sym (append_assoc (block_text n (outcome w x)) (blocks (n + 1) (happens w x) xs) (blocks (n + length (x ∷ xs)) (world_after (happens w x) xs) ys))
+
+or_false : (b : Bool) → (b || false) ≡ b
+or_false true = refl
+or_false false = refl
+
+or_assoc : (a b c : Bool) → (a || (b || c)) ≡ ((a || b) || c)
+or_assoc true b c = refl
+or_assoc false b c = refl
+
+pub has_refusal-append : (w : World) (xs : List (List ℕ)) (y : List ℕ) → has_refusal w (xs ++ y ∷ []) ≡ (has_refusal w xs || is_refusal (outcome (world_after w xs) y))
+has_refusal-append w [] y = or_false (is_refusal (outcome w y))
+has_refusal-append w (x ∷ xs) y =
+    ap (λ z. is_refusal (outcome w x) || z) (has_refusal-append (happens w x) xs y) ∙ or_assoc (is_refusal (outcome w x)) (has_refusal (happens w x) xs) (is_refusal (outcome (world_after (happens w x) xs) y))

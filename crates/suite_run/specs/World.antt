@@ -1,0 +1,124 @@
+-- What is known between two lines, what a line changes in it, and what is told of the line (this project's own).
+use Rattle.std.specs.Prelude.{ℕ, ◌+◌, List, length, Bool, true, false, ◌&&◌, nat_lt, if◌then◌else◌, Result, Ok, Err}
+use Rattle.std.specs.List.{list_any}
+use Rattle.cl_types.specs.Equality.{text_eq}
+use Rattle.cl_types.specs.Judgement.{Judgement}
+use Rattle.cluster_objects.specs.declared.change.Applied.{Applied}
+use Rattle.cluster_objects.specs.declared.change.Applied.TheVariants.{Changed, Unchanged}
+use Rattle.cluster_objects.specs.declared.change.Change.{Change}
+use Rattle.cluster_objects.specs.declared.change.Change.TheVariants.{Put}
+use Rattle.cluster_objects.specs.declared.change.ClusterRefusal.{ClusterRefusal}
+use Rattle.cluster_objects.specs.declared.change.ClusterRefusal.TheVariants as cluster
+use Rattle.cluster_objects.specs.declared.change.Object.TheVariants as object
+use Rattle.cluster_objects.specs.Apply.{apply, Outcome as Applying}
+use Rattle.cluster_objects.specs.Evaluation.{side}
+use Rattle.cluster_objects.specs.Objects.{NodeData}
+use Rattle.cluster_objects.specs.State.{ClusterData, no_objects}
+use Rattle.suite_run.specs.declared.item.Ask.{Ask}
+use Rattle.suite_run.specs.declared.item.LineItem.{LineItem}
+use Rattle.suite_run.specs.declared.item.LineItem.TheVariants as item
+use Rattle.suite_run.specs.declared.item.ReadRefusal.{ReadRefusal}
+use Rattle.suite_run.specs.declared.item.ReadRefusal.TheVariants as reading
+use Rattle.suite_run.specs.declared.said.Refusal.{Refusal}
+use Rattle.suite_run.specs.declared.said.Refusal.TheVariants.{NotJson, NotBuilt, TooLong, NodesFixed, AddressInUse, NoNode}
+use Rattle.suite_run.specs.declared.said.Said.{Said}
+use Rattle.suite_run.specs.declared.said.Said.TheVariants.{Object, Question, Blank, Refused}
+use Rattle.suite_run.specs.declared.world.World.{World}
+use Rattle.suite_run.specs.ReadLine.{read_line}
+
+-- ---- what a line says
+
+-- no longer line is read, and no more bytes of input
+abbrev pub byte_limit : ℕ
+byte_limit = 1048576
+
+-- (a reader that had no memory says nothing of its line)
+abbrev pub said_of : Result LineItem ReadRefusal → Said
+said_of (Ok (item.Object change)) = Object change
+said_of (Ok (item.Ask ask)) = Question ask
+said_of (Ok item.Blank) = Blank
+said_of (Err reading.NotJson) = Refused NotJson
+said_of (Err reading.NotBuilt) = Refused NotBuilt
+said_of (Err reading.NoMemory) = Blank
+
+unfoldable pub said : List ℕ → Said
+said line = if nat_lt byte_limit (length line) then Refused (TooLong (length line)) else said_of (read_line line)
+
+-- ---- what is told of it
+
+pub data Outcome : Type 0 where
+  silent : Outcome
+  revision : ℕ → Outcome
+  node_count : ℕ → Outcome
+  no_change : Outcome
+  refused : Refusal → Outcome
+  judged : ℕ → Judgement → Outcome
+
+abbrev pub is_refusal : Outcome → Bool
+is_refusal (refused r) = true
+is_refusal silent = false
+is_refusal (revision r) = false
+is_refusal (node_count k) = false
+is_refusal no_change = false
+is_refusal (judged r j) = false
+
+-- ---- the world
+
+-- before the first line
+abbrev pub first_world : World
+first_world = record { cluster = no_objects; revision = 0 }
+
+-- the world after a line, and what is told of the line
+pub record Step : Type 0 where
+  pub world : World
+  pub outcome : Outcome
+
+-- the world stays as it is
+abbrev pub tells : World → Outcome → Step
+tells w outcome = record { world = w; outcome = outcome }
+
+abbrev pub is_node : Change → Bool
+is_node (Put (object.Node n)) = true
+is_node (Put (object.Pod p)) = false
+is_node (Put (object.Policy p)) = false
+
+-- the next revision
+abbrev pub revised : World → Step
+revised w = record { world = record w { revision = w.revision + 1 }; outcome = revision (w.revision + 1) }
+
+-- A change of a Node makes no revision: the nodes are counted instead.
+abbrev pub differs : Bool → World → Step
+differs true w = tells w (node_count (length w.cluster.nodes))
+differs false w = revised w
+
+abbrev pub applied : Bool → World → Applied → Step
+applied node w Unchanged = tells w no_change
+applied node w Changed = differs node w
+
+-- what a change came to (one for which there was no memory is no step)
+abbrev pub changes : Bool → World → Result Applying ClusterRefusal → Step
+changes node w (Ok o) = applied node (record w { cluster = o.cluster }) o.applied
+changes node w (Err cluster.NodesFixed) = tells w (refused NodesFixed)
+changes node w (Err (cluster.AddressInUse pod)) = tells w (refused (AddressInUse pod))
+changes node w (Err cluster.NoMemory) = tells w silent
+
+-- a node is listed once the nodes are fixed
+abbrev pub is_listed : ClusterData → List ℕ → Bool
+is_listed c name = c.fixed && list_any (λ (n : NodeData). text_eq n.name name) c.nodes
+
+-- the answer to a question
+abbrev pub answer : World → Ask → Outcome
+answer w ask = if is_listed w.cluster ask.node then judged w.revision (side w.cluster ask.node ask.question) else refused NoNode
+
+unfoldable pub step : World → Said → Step
+step w (Object change) = changes (is_node change) w (apply w.cluster change)
+step w (Question ask) = tells w (answer w ask)
+step w Blank = tells w silent
+step w (Refused r) = tells w (refused r)
+
+-- what is told of a line, and the world after it
+abbrev pub outcome : World → List ℕ → Outcome
+outcome w line = (step w (said line)).outcome
+
+abbrev pub happens : World → List ℕ → World
+happens w line = (step w (said line)).world

@@ -1,0 +1,92 @@
+//! The text that is printed of each line.
+ghost use Rattle.std.specs.Prelude.{◌≡◌, ◌++◌, [], ◌∷◌, OnOk, IfOk};
+ghost use Rattle.std.specs.Fmt.{decimal};
+ghost use Rattle.suite_run.specs.Blocks.{refusal_text, outcome_text, is_silent, block_text};
+ghost use Rattle.suite_run.specs.Shown.{outcome_of};
+ghost use Rattle.suite_run.specs.World.{is_refusal};
+
+use crate::said::Refusal;
+use crate::world::Answer;
+use cl_types::{NoMemory, Text, write_bytes, write_judged, write_number, write_pod};
+use std::alloc::Global;
+
+/// What is printed of a line, and whether it says that the line is refused.
+#[derive(Debug, Drop)]
+pub(crate) struct Block {
+    pub(crate) text: Text,
+    pub(crate) refusal: bool,
+}
+
+/// The block of a line with this number.
+#[tactic(auto, unfolding(crate::specs::Blocks::block_text))]
+pub(crate) fn block_of(alloc: Global, number: u64, answer: &Answer) -> Result<Block, NoMemory>
+    ensures text { IfOk result (λ b. b.text ≡ block_text number (outcome_of answer.now)) }
+    ensures refusal { IfOk result (λ b. b.refusal ≡ is_refusal (outcome_of answer.now)) }
+{
+    let mut text = Text::new(alloc);
+    if !is_silent(answer) {
+        write_number(&mut text, number)?;
+        write_bytes(&mut text, b" ")?;
+        write_answer(&mut text, answer)?;
+        write_bytes(&mut text, b"\n")?;
+    }
+    Ok(Block {
+        text,
+        refusal: is_refusal(answer),
+    })
+}
+
+fn is_silent(answer: &Answer) -> bool
+    ensures { result ≡ is_silent (outcome_of answer.now) }
+{
+    matches!(answer, Answer::Silent)
+}
+
+fn is_refusal(answer: &Answer) -> bool
+    ensures { result ≡ is_refusal (outcome_of answer.now) }
+{
+    matches!(answer, Answer::Refused(_))
+}
+
+fn write_answer(out: &mut Text, answer: &Answer) -> Result<(), NoMemory>
+    ensures { OnOk result (out.new ≡ out.old ++ outcome_text (outcome_of answer.now)) }
+{
+    match answer {
+        Answer::Silent => Ok(()),
+        Answer::Revision(revision) => write_counted(out, b"revision ", *revision),
+        Answer::Nodes(count) => write_counted(out, b"nodes ", *count),
+        Answer::Unchanged => write_bytes(out, b"unchanged"),
+        Answer::Refused(refusal) => {
+            write_bytes(out, b"refused ")?;
+            write_refusal(out, refusal)
+        }
+        Answer::Controller(revision, judged) => {
+            write_counted(out, b"controller ", *revision)?;
+            write_bytes(out, b" ")?;
+            write_judged(out, judged)
+        }
+    }
+}
+
+fn write_counted(out: &mut Text, word: &[u8], count: u64) -> Result<(), NoMemory>
+    ensures { OnOk result (out.new ≡ out.old ++ (word.now ++ decimal count)) }
+{
+    write_bytes(out, word)?;
+    write_number(out, count)
+}
+
+fn write_refusal(out: &mut Text, refusal: &Refusal) -> Result<(), NoMemory>
+    ensures { OnOk result (out.new ≡ out.old ++ refusal_text refusal.now) }
+{
+    match refusal {
+        Refusal::NotJson => write_bytes(out, b"NotJson"),
+        Refusal::NotBuilt => write_bytes(out, b"NotBuilt"),
+        Refusal::TooLong(count) => write_counted(out, b"TooLong ", *count),
+        Refusal::NodesFixed => write_bytes(out, b"NodesFixed"),
+        Refusal::AddressInUse(pod) => {
+            write_bytes(out, b"AddressInUse ")?;
+            write_pod(out, pod)
+        }
+        Refusal::NoNode => write_bytes(out, b"NoNode"),
+    }
+}

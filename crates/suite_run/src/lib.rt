@@ -1,0 +1,23 @@
+//! The commands of `antrea`, over any files and sinks.
+#![tactic(auto)]
+
+mod blocks;
+mod item;
+mod laws;
+mod reader;
+mod replay;
+mod said;
+mod site;
+mod status;
+mod top;
+mod turn;
+mod words;
+mod world;
+
+pub use laws::refused_lines_change_nothing;
+pub use site::Site;
+pub use status::Status;
+pub use top::calm;
+
+#[cfg(test)]
+mod tests;

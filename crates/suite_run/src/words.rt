@@ -1,0 +1,54 @@
+//! What the words of a call mean, and what is told beside the output.
+ghost use Rattle.std.specs.Prelude.{◌≡◌, ◌≤◌, [], ◌∷◌, ◌++◌, map, string_bytes};
+ghost use Rattle.std.specs.Option.{option_copied};
+ghost use Rattle.suite_run.specs.Words.{words_mean, complaint, line_of, Says};
+
+use crate::status::Status;
+use cl_io::{Failed, Sink, put};
+
+/// The file whose lines are replayed, where the words say so.
+pub(crate) fn replayed_file(words: &[String]) -> Option<&str>
+    ensures { option_copied result ≡ words_mean (map string_bytes words.now) }
+{
+    match words {
+        [command, name] if command.as_str() == "replay" => Some(name.as_str()),
+        _ => None,
+    }
+}
+
+/// Tells why there isn't the whole output, where the status wants it. A failure changes nothing.
+#[tactic(auto, unfolding(crate::specs::Words::complaint))]
+pub(crate) fn complain<E: Sink>(err: &mut E, status: Status, name: &[u8])
+    ensures { Says (complaint status name.now) (E.faults err.old) (E.written err.old) (E.faults err.new) (E.written err.new) }
+{
+    match status {
+        Status::BadWords => say(
+            err,
+            b"usage: antrea check FILE... | replay [--ring N] FILE... | live [--ring N] FILE... | drill N\n",
+        ),
+        Status::OpenFault => say_of(err, b"antrea: cannot open ", name),
+        Status::ReadFault => say_of(err, b"antrea: cannot read ", name),
+        Status::InputTooLong => say(err, b"antrea: input too long\n"),
+        Status::Done | Status::SomeRefused | Status::WriteFault | Status::NoMemory => say(err, b""),
+    }
+}
+
+fn say<E: Sink>(err: &mut E, text: &[u8])
+    ensures { Says text.now (E.faults err.old) (E.written err.old) (E.faults err.new) (E.written err.new) }
+{
+    let _ = put(err, text);
+}
+
+fn say_of<E: Sink>(err: &mut E, front: &[u8], name: &[u8])
+    ensures { Says (front.now ++ line_of name.now) (E.faults err.old) (E.written err.old) (E.faults err.new) (E.written err.new) }
+{
+    let _ = put_of(err, front, name);
+}
+
+fn put_of<E: Sink>(err: &mut E, front: &[u8], name: &[u8]) -> Result<(), Failed>
+    ensures { Says (front.now ++ line_of name.now) (E.faults err.old) (E.written err.old) (E.faults err.new) (E.written err.new) }
+{
+    put(err, front)?;
+    put(err, name)?;
+    put(err, b"\n")
+}
