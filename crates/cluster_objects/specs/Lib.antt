@@ -1,5 +1,6 @@
 pub mod Apply
 pub mod Evaluation
 pub mod Groups
+pub mod Kept
 pub mod Objects
 pub mod State

@@ -1,9 +1,5 @@
 -- A cluster as plain data.
 use Rattle.std.specs.Prelude.{ℕ, List, [], ◌∷◌, Bool, false, codes}
-use Rattle.std.specs.Ordering.{nat_cmp}
-use Rattle.std.specs.Cmp.Lexicographic.{slice_cmp}
-use Rattle.cl_types.specs.Ascending.{Ascends}
-use Rattle.cl_types.specs.RuleOrder.{pod_order, policy_order}
 use Rattle.cluster_objects.specs.declared.egress.EgressObj.{EgressObj}
 use Rattle.cluster_objects.specs.declared.node.Namespace.{Namespace}
 use Rattle.cluster_objects.specs.declared.policy.Tier.{Tier}
@@ -31,10 +27,3 @@ static_tiers =
 -- the static tiers and nothing else
 abbrev pub no_objects : ClusterData
 no_objects = record { nodes = []; fixed = false; namespaces = []; pods = []; tiers = static_tiers; policies = []; egresses = [] }
-
--- each kind ascends by its keys, without a repeat
-pub record IsCluster (c : ClusterData) : Type 0 where
-  pub nodes_ascend : Ascends (λ (n : NodeData). n.name) (slice_cmp nat_cmp) c.nodes
-  pub namespaces_ascend : Ascends (λ (n : Namespace). n.name) (slice_cmp nat_cmp) c.namespaces
-  pub pods_ascend : Ascends (λ (p : PodData). p.key) pod_order c.pods
-  pub policies_ascend : Ascends (λ (p : PolicyData). p.key) policy_order c.policies

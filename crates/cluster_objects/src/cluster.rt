@@ -1,7 +1,7 @@
-ghost use Rattle.std.specs.Prelude.{◌≡◌, ◌&&◌, IfOk, option_copied, Ok, find};
+ghost use Rattle.std.specs.Prelude.{◌≡◌, ◌&&◌, IfOk, option_copied, Ok, None, find};
 ghost use Rattle.cl_types.specs.Ascending.{Ascends, found};
 ghost use Rattle.cl_types.specs.Equality.{is_same};
-ghost use Rattle.cluster_objects.specs.Apply.{is_there, address_taker};
+ghost use Rattle.cluster_objects.specs.Apply.{is_there};
 ghost use Rattle.cluster_objects.specs.State.{static_tiers, tier_of};
 
 use crate::change::{Applied, Change, ClusterRefusal, Object};
@@ -27,7 +27,8 @@ pub struct Cluster {
 }
 
 impl Model for Cluster {
-    ghost use Rattle.cluster_objects.specs.State.{ClusterData, IsCluster};
+    ghost use Rattle.cluster_objects.specs.Kept.{IsCluster};
+    ghost use Rattle.cluster_objects.specs.State.{ClusterData};
 
     ghost Value = { ClusterData };
 
@@ -74,7 +75,7 @@ fn is_there<T: Keyed + Same>(items: &[T], item: &T) -> bool
 }
 
 impl Cluster {
-    ghost use Rattle.cluster_objects.specs.Apply.{apply, put_node, put_pod, fixed_with_pod, put_policy, Follows};
+    ghost use Rattle.cluster_objects.specs.Apply.{apply, put_node, put_pod, address_taker, fixed_with_pod, put_policy, Follows};
     ghost use Rattle.cluster_objects.specs.State.{no_objects};
     ghost use Rattle.cluster_objects.specs.Groups.{counts, has, ns_labels};
     ghost use Rattle.cluster_objects.specs.Evaluation.{has_address};
@@ -202,6 +203,7 @@ impl Cluster {
 
     // Puts a pod whose addresses no other has.
     fn put_free_pod(&mut self, pod: Pod) -> Result<Applied, ClusterRefusal>
+        requires { address_taker self.old pod ≡ None }
         ensures { Follows (Ok (fixed_with_pod self.old pod)) self.old result self.new }
     {
         if is_there(self.pods.as_slice(), &pod) {
