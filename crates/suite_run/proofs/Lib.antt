@@ -1,6 +1,9 @@
+pub mod AddressTexts
 pub mod Ending
+pub mod JsonViews
+pub mod KubeRules
+pub mod RefusedLines
 pub mod Revisions
 pub mod Running
-pub mod Wholes
 pub mod Saying
-pub mod RefusedLines
+pub mod Wholes

@@ -6,22 +6,22 @@ use std::test::Fail;
 
 // What a run over files and sinks in memory came to.
 #[derive(Drop)]
-struct Ran {
-    status: Status,
-    out: Vec<u8>,
-    err: Vec<u8>,
+pub(crate) struct Ran {
+    pub(crate) status: Status,
+    pub(crate) out: Vec<u8>,
+    pub(crate) err: Vec<u8>,
 }
 
 // Where the files and the sinks fail: the numbers of calls, counted from 1, and the place after so many bytes.
 #[derive(Clone, Copy)]
-struct Faults<'a> {
+pub(crate) struct Faults<'a> {
     files: &'a [u64],
     file_at: Option<u64>,
     out: &'a [u64],
     err: &'a [u64],
 }
 
-const NONE: Faults<'static> = Faults {
+pub(crate) const NONE: Faults<'static> = Faults {
     files: &[],
     file_at: None,
     out: &[],
@@ -38,7 +38,12 @@ fn text(alloc: Global, bytes: &[u8]) -> Result<Text, AllocError> {
 }
 
 // Replays the file `F` of these bytes.
-fn replayed(alloc: Global, words: &[&str], bytes: &[u8], faults: Faults) -> Result<Ran, Fail> {
+pub(crate) fn replayed(
+    alloc: Global,
+    words: &[&str],
+    bytes: &[u8],
+    faults: Faults,
+) -> Result<Ran, Fail> {
     let mut given = Vec::new(alloc);
     for word in words {
         given.push(String::from_str(alloc, word)?)?;
