@@ -114,17 +114,15 @@ fn question_port(proto: Proto, value: &Value) -> Result<u16, ReadRefusal>
 fn port_at(value: &Value) -> Result<u16, ReadRefusal>
     ensures { Gives (λ (p : _). p) result (port_at (view value.now)) }
 {
-    match field(value, "port") {
-        Some(number) => match whole_number(number) {
-            Some(port) => {
-                if port < 65536 {
-                    Ok(port as u16)
-                } else {
-                    Err(ReadRefusal::NotBuilt)
-                }
-            }
-            None => Err(ReadRefusal::NotBuilt),
-        },
-        None => Err(ReadRefusal::NotBuilt),
+    let Some(number) = field(value, "port") else {
+        return Err(ReadRefusal::NotBuilt);
+    };
+    let Some(port) = whole_number(number) else {
+        return Err(ReadRefusal::NotBuilt);
+    };
+    if port < 65536 {
+        Ok(port as u16)
+    } else {
+        Err(ReadRefusal::NotBuilt)
     }
 }
