@@ -4,3 +4,4 @@ pub mod Running
 pub mod Wholes
 pub mod Saying
 pub mod RefusedLines
+pub mod NoLongLines
