@@ -10,5 +10,4 @@ pub fn refused_lines_change_nothing()
 /// While lines and input have the same limit, no line is refused for its length.
 pub fn no_line_is_too_long()
     ensures { NoLineIsTooLong }
-{
-}
+{}
