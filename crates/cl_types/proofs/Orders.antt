@@ -10,10 +10,11 @@ use Rattle.cl_types.specs.declared.keys.PolicyKind.{PolicyKind}
 use Rattle.cl_types.specs.declared.keys.PolicyKind.TheVariants.{Cluster, Antrea, Kube}
 use Rattle.cl_types.specs.declared.keys.Dir.{Dir}
 use Rattle.cl_types.specs.declared.keys.Dir.TheVariants.{Ingress, Egress}
+use Rattle.cl_types.specs.declared.keys.PodKey.{PodKey}
 use Rattle.cl_types.specs.declared.keys.RuleKey.{RuleKey}
 use Rattle.cl_types.specs.Addr.{addr_order, width_of, number_of}
 use Rattle.cl_types.specs.PolicyName.{PolicyName}
-use Rattle.cl_types.specs.RuleOrder.{kind_place, dir_place, policy_order, rule_order}
+use Rattle.cl_types.specs.RuleOrder.{kind_place, dir_place, pod_order, policy_order, rule_order}
 
 both_equal : (o p : Ordering) → ordering_then o p ≡ Equal → (o ≡ Equal) × (p ≡ Equal)
 both_equal Less p e = cc
@@ -82,3 +83,10 @@ pub addr_order_exact : (a b : Addr) → addr_order a b ≡ Equal → a ≡ b
 addr_order_exact a b e =
     let parts = both_equal (nat_cmp (width_of a) (width_of b)) (nat_cmp (number_of a) (number_of b)) e in
     same_address a b (nat_exact (width_of a) (width_of b) parts.0) (nat_exact (number_of a) (number_of b) parts.1)
+
+pub pod_order_exact : (a b : PodKey) → pod_order a b ≡ Equal → a ≡ b
+pod_order_exact a b e =
+    let parts = both_equal (slice_cmp nat_cmp a.namespace b.namespace) (slice_cmp nat_cmp a.name b.name) e in
+    let namespace = text_exact a.namespace b.namespace parts.0 in
+    let name = text_exact a.name b.name parts.1 in
+    (λ i. record { namespace = namespace i; name = name i })

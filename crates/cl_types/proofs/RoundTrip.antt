@@ -1,14 +1,14 @@
 -- What is written of an address is read as that address.
-use Rattle.std.proofs.Common.{◌≡◌, ℕ, zero, suc, ◌+◌, ◌-◌, ◌*◌, ◌/◌, ◌%◌, ◌^◌, ◌<◌, ◌≤◌, List, [], ◌∷◌, ◌++◌, length, length-drop, map, take, drop, replicate, Bool, true, false, cond, eqb, ltb, inl, inr, refl, sym, ap, ◌∙◌, subst, add-one, nat_lt, ◌⊎◌, arith}
+use Rattle.std.proofs.Common.{◌≡◌, ℕ, zero, suc, ◌+◌, ◌-◌, ◌*◌, ◌/◌, ◌%◌, ◌^◌, ◌<◌, ◌≤◌, List, [], ◌∷◌, ◌++◌, length, length-drop, map, take, drop, get_or, replicate, Bool, true, false, cond, eqb, ltb, inl, inr, refl, sym, ap, ◌∙◌, subst, add-one, nat_lt, ◌⊎◌, arith}
 use Rattle.std.specs.List.{join_with_byte, AllByRecursion}
 use Rattle.std.specs.Fmt.{decimal, digits}
 use Rattle.std.specs.Int.Digits.{number_from_digits}
 use Rattle.std.proofs.lemmas.Fmt.{digits_is_IsNumeral}
 use Rattle.std.proofs.lemmas.Int.Digits.{number_push}
-use Rattle.std.proofs.lemmas.List.{length-take-le, length_push}
+use Rattle.std.proofs.lemmas.List.{get_or-append_right, get_or_append_left, get_or-replicate, length-replicate, length-take-le, length_push}
 use Rattle.std.proofs.lemmas.Nat.{div-add-mod', div_below}
 use Rattle.std.proofs.Math.Nat.{pow-suc, pow-zero}
-use borrow.Author.Tests.{eqb-true, ltb-false}
+use borrow.Author.Tests.{eqb-true, eq-eqb, ltb-true, ltb-false}
 use Rattle.cl_types.specs.declared.addr.Addr.{Addr}
 use Rattle.cl_types.specs.declared.addr.Addr.TheVariants.{V4, V6}
 use Rattle.cl_types.specs.declared.reading.Family.{Family}
@@ -17,7 +17,7 @@ use Rattle.cl_types.specs.declared.writing.ZeroRun.{ZeroRun}
 use Rattle.cl_types.specs.Addr.{width_of, number_of}
 use Rattle.cl_types.specs.Prefix.{Block, IsBlock, cleared}
 use Rattle.cl_types.specs.Reading.{separator_of, IsPart, IsParts, IsGroup, IsFull, IsShortened, IsDotted, IsAddress, IsPrefix}
-use Rattle.cl_types.specs.Written.{places, groups_of, zeros_at_front, longest_run, hexadecimal_groups, compressed, dotted, address_text, prefix_text}
+use Rattle.cl_types.specs.Written.{IsZeroRun, places, groups_of, zeros_at_front, longest_run, hexadecimal_groups, compressed, dotted, address_text, prefix_text}
 use Rattle.cl_types.proofs.Digits.{length-digits-le}
 
 parts_joined : (f : Family) (w : ℕ → List ℕ) (ns : List ℕ) → AllByRecursion (λ n. IsPart f (w n) n) ns → IsParts f (join_with_byte (separator_of f) (map w ns)) ns
@@ -185,4 +185,64 @@ written_prefix_is_read b h block =
       form = written_address_is_read b.base h;
       len = whole.0;
       base = whole.1;
+    }
+
+-- ---- no run is longer
+front_longest : (gs : List ℕ) (m : ℕ) → m ≤ length gs → ((k : ℕ) → k < m → get_or gs k 0 ≡ 0) → m ≤ zeros_at_front gs
+front_longest gs zero h zeros = omega arith
+front_longest [] (suc m) h zeros = absurd (omega arith)
+front_longest (g ∷ gs) (suc m) h zeros =
+    let none : eqb g 0 ≡ true = eq-eqb g 0 (zeros 0 (omega arith)) in
+    let rest = front_longest gs m (omega arith) (λ k l. zeros (suc k) (omega arith)) in
+    omega (arith, rest, ap (λ t. cond t (zeros_at_front gs + 1) 0) none)
+
+abbrev Beats : ℕ → ZeroRun → ℕ → ℕ → Type 0
+Beats start r i m = (m ≤ r.len) × (m ≡ r.len → r.start ≤ start + i)
+
+-- the run that starts here, or one further on, against the one that is chosen
+chosen : (start here i m : ℕ) (later : ZeroRun) (t : Bool) → ltb here later.len ≡ t → (i ≡ 0 → m ≤ here) → (0 < i → (m ≤ later.len) × (m ≡ later.len → later.start ≤ start + i)) → Beats start (cond t later (record { start = start; len = here })) i m
+chosen start here zero m later true e first rest =
+    let more = ltb-true here later.len e in
+    (omega (arith, first refl), λ same. absurd (omega (arith, first refl)))
+chosen start here zero m later false e first rest = (first refl, λ same. omega arith)
+chosen start here (suc i) m later true e first rest = rest (omega arith)
+chosen start here (suc i) m later false e first rest =
+    let less = ltb-false here later.len e in
+    (omega (arith, (rest (omega arith)).0), λ same. omega arith)
+
+run_beats : (start : ℕ) (gs : List ℕ) (i m : ℕ) → i + m ≤ length gs → ((k : ℕ) → i ≤ k → k < i + m → get_or gs k 0 ≡ 0) → Beats start (longest_run start gs) i m
+run_beats start [] i m h zeros = (omega arith, λ e. omega arith)
+run_beats start (g ∷ gs) i m h zeros =
+    chosen start (zeros_at_front (g ∷ gs)) i m (longest_run (start + 1) gs) (ltb (zeros_at_front (g ∷ gs)) (longest_run (start + 1) gs).len) refl
+    (λ none. front_longest (g ∷ gs) m (omega arith) (λ k l. zeros k (omega arith) (omega arith)))
+    (later i h zeros (λ j. run_beats (start + 1) gs j m))
+  where
+    later : (i : ℕ) → i + m ≤ suc (length gs) → ((k : ℕ) → i ≤ k → k < i + m → get_or (g ∷ gs) k 0 ≡ 0)
+        → ((j : ℕ) → j + m ≤ length gs → ((k : ℕ) → j ≤ k → k < j + m → get_or gs k 0 ≡ 0) → Beats (start + 1) (longest_run (start + 1) gs) j m)
+        → 0 < i → (m ≤ (longest_run (start + 1) gs).len) × (m ≡ (longest_run (start + 1) gs).len → (longest_run (start + 1) gs).start ≤ start + i)
+    later zero h zeros rec some = absurd (omega arith)
+    later (suc j) h zeros rec some =
+        let r = rec j (omega arith) (λ k low high. zeros (suc k) (omega arith) (omega arith)) in
+        (r.0, λ same. omega (arith, r.1 same))
+
+pub longest_is : (gs : List ℕ) (start len : ℕ) → IsZeroRun gs start len → (len ≤ (longest_run 0 gs).len) × (len ≡ (longest_run 0 gs).len → (longest_run 0 gs).start ≤ start)
+longest_is gs start len r =
+    let b = run_beats 0 gs start len r.within r.zeros in
+    (b.0, λ same. omega (arith, b.1 same))
+
+-- the run that was found is one
+zeros_between : (gs : List ℕ) (before len k : ℕ) → IsRun gs before len → before ≤ k → k < before + len → get_or gs k 0 ≡ 0
+zeros_between gs before len k r low high =
+    let front : length (take before gs) ≡ before = length-take-le before gs (omega (arith, r.within, r.end_is)) in
+    ap (λ xs. get_or xs k 0) r.zeros
+    ∙ get_or-append_right (take before gs) (replicate len 0 ++ drop r.end gs) before k 0 front low
+    ∙ get_or_append_left (replicate len 0) (drop r.end gs) 0 (k - before) (omega (arith, length-replicate {A = ℕ} len 0))
+    ∙ get_or-replicate len (k - before) 0 0 (omega arith)
+
+pub run_is_zero : (gs : List ℕ) → IsZeroRun gs (longest_run 0 gs).start (longest_run 0 gs).len
+run_is_zero gs =
+    let found = run_found 0 gs in
+    record {
+      within = omega (arith, found.place, found.is_run.within, found.is_run.end_is);
+      zeros = λ k low high. zeros_between gs found.before (longest_run 0 gs).len k found.is_run (omega (arith, found.place)) (omega (arith, found.place));
     }

@@ -1,6 +1,6 @@
 -- Printed texts. Addresses: RFC 791's dotted decimals, and RFC 5952 for IPv6. The texts of policies, rules,
 -- pods and verdicts are this project's own.
-use Rattle.std.specs.Prelude.{◌≡◌, ℕ, zero, suc, false, ◌+◌, ◌/◌, ◌%◌, ◌^◌, ◌<◌, ◌==◌, nat_lt, if◌then◌else◌, List, [], ◌∷◌, ◌++◌, map, take, drop, length, codes}
+use Rattle.std.specs.Prelude.{◌≡◌, ℕ, zero, suc, false, ◌+◌, ◌/◌, ◌%◌, ◌^◌, ◌<◌, ◌≤◌, ◌==◌, nat_lt, if◌then◌else◌, List, [], ◌∷◌, ◌++◌, map, take, drop, length, slice_index, codes}
 use Rattle.std.specs.List.{join_with_byte}
 use Rattle.std.specs.Int.{to_be_bytes, w32}
 use Rattle.std.specs.Fmt.{decimal, digits}
@@ -40,6 +40,11 @@ longest_run start (g ∷ gs) =
     let later = longest_run (start + 1) gs in
     let here = zeros_at_front (g ∷ gs) in
     if nat_lt here later.len then later else (record { start = start; len = here })
+
+-- so many groups from start on are there and zero
+pub record IsZeroRun (gs : List ℕ) (start len : ℕ) : Type 0 where
+  pub within : start + len ≤ length gs
+  pub zeros : (k : ℕ) → start ≤ k → k < start + len → slice_index gs k ≡ 0
 
 -- lower-case hexadecimal digits without leading zeros, joined by colons
 abbrev pub hexadecimal_groups : List ℕ → List ℕ

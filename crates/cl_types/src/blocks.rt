@@ -58,14 +58,8 @@ fn add_spans<R: Region>(spans: &mut Vec<Span>, region: &R, span: Span) -> Result
             let height = span.height - 1;
             let index = span.index * 2;
             add_spans(spans, region, Span { height, index })?;
-            add_spans(
-                spans,
-                region,
-                Span {
-                    height,
-                    index: index + 1,
-                },
-            )?;
+            let index = index + 1;
+            add_spans(spans, region, Span { height, index })?;
         }
     }
     Ok(())

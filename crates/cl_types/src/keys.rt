@@ -238,3 +238,6 @@ pub fn rule_cmp(a: &RuleKey, b: &RuleKey) -> Ordering
         .then(a.dir.place().cmp(&b.dir.place()))
         .then(a.index.cmp(&b.index))
 }
+
+#[cfg(test)]
+mod tests;

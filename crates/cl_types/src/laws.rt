@@ -8,14 +8,15 @@ ghost use Rattle.cl_types.specs.declared.keys.RuleKey.{RuleKey};
 ghost use Rattle.cl_types.specs.declared.keys.PodKey.{PodKey};
 ghost use Rattle.cl_types.specs.Addr.{addr_order, width_of, number_of};
 ghost use Rattle.cl_types.specs.PolicyName.{PolicyName, IsPolicyName, HasNoSlash};
-ghost use Rattle.cl_types.specs.RuleOrder.{policy_order, rule_order};
+ghost use Rattle.cl_types.specs.RuleOrder.{pod_order, policy_order, rule_order};
 ghost use Rattle.cl_types.specs.Reading.{IsAddress, IsPrefix};
 ghost use Rattle.cl_types.specs.Prefix.{Block, IsBlock};
-ghost use Rattle.cl_types.specs.Written.{address_text, prefix_text, policy_text, rule_text, pod_text, HasName};
+ghost use Rattle.cl_types.specs.Written.{longest_run, IsZeroRun, address_text, prefix_text, policy_text, rule_text, pod_text, HasName};
 
-/// Only equal addresses, policies and rules stand at one place of their order.
+/// Only equal addresses, pods, policies and rules stand at one place of their order.
 pub fn orders_are_exact()
     ensures addresses { (a b : Addr) → addr_order a b ≡ Equal → a ≡ b }
+    ensures pods { (a b : PodKey) → pod_order a b ≡ Equal → a ≡ b }
     ensures policies { (a b : PolicyName) → policy_order a b ≡ Equal → a ≡ b }
     ensures rules { (a b : RuleKey) → rule_order a b ≡ Equal → a ≡ b }
 {}
@@ -47,4 +48,14 @@ pub fn written_is_read()
 /// A text of an IPv4 address is the one that is written.
 pub fn decimals_have_one_text()
     ensures { (text : List ℕ) (n : ℕ) → IsAddress text (V4 n) → (text ≡ address_text (V4 n)) × (n < 2 ^ 32) }
+{}
+
+/// `::` stands for zero groups alone. No run of zero groups is longer than the one that it stands for, and
+/// of equally long ones it stands for the first (RFC 5952).
+pub fn gap_is_the_longest_run()
+    ensures zeros { (gs : List ℕ) → IsZeroRun gs (longest_run 0 gs).start (longest_run 0 gs).len }
+    ensures longest { (gs : List ℕ) (start len : ℕ) → IsZeroRun gs start len
+        → len ≤ (longest_run 0 gs).len }
+    ensures first { (gs : List ℕ) (start len : ℕ) → IsZeroRun gs start len
+        → len ≡ (longest_run 0 gs).len → (longest_run 0 gs).start ≤ start }
 {}

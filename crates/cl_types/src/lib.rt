@@ -23,8 +23,8 @@ pub use copies::Copies;
 pub use keyed::{Keyed, find, put, search};
 pub use keys::{Dir, PodKey, PolicyKey, PolicyKind, RuleKey, rule_cmp};
 pub use laws::{
-    decimals_have_one_text, orders_are_exact, texts_have_one_reading, texts_tell_names_apart,
-    written_is_read,
+    decimals_have_one_text, gap_is_the_longest_run, orders_are_exact, texts_have_one_reading,
+    texts_tell_names_apart, written_is_read,
 };
 pub use list::List;
 pub use memory::NoMemory;

@@ -1,7 +1,7 @@
 -- The verdict of the policies for a pod of a node (Kubernetes NetworkPolicy v1, and Antrea's tiers, with
 -- Baseline after the Kubernetes policies).
-use Rattle.std.specs.Prelude.{ℕ, List, [], ◌∷◌, ◌++◌, map, Bool, true, false, not, ◌&&◌, ◌||◌, ◌==◌, nat_le, filter, Option, Some, None, if◌then◌else◌, find}
-use Rattle.std.specs.List.{list_all, list_any, flat_map}
+use Rattle.std.specs.Prelude.{ℕ, List, [], ◌∷◌, Bool, true, false, not, ◌&&◌, ◌||◌, ◌==◌, nat_le, filter, Option, Some, None, if◌then◌else◌, find}
+use Rattle.std.specs.List.{list_any, flat_map}
 use Rattle.std.specs.Option.{option_map_or}
 use Rattle.std.specs.Ordering.{is_gt}
 use Rattle.cl_types.specs.declared.addr.Addr.{Addr}
@@ -18,7 +18,7 @@ use Rattle.cl_types.specs.declared.traffic.PortName.{PortName}
 use Rattle.cl_types.specs.declared.traffic.Question.{Question}
 use Rattle.cl_types.specs.Equality.{text_eq, addr_eq, dir_eq, proto_eq}
 use Rattle.cl_types.specs.Judgement.{Judgement, by_rule, by_isolation, by_default}
-use Rattle.cl_types.specs.Prefix.{Block as Prefix, holds}
+use Rattle.cl_types.specs.Prefix.{holds}
 use Rattle.cl_types.specs.RuleOrder.{rule_order}
 use Rattle.cl_types.specs.Traffic.{PortRange}
 use Rattle.label_select.specs.Group.{Group}

@@ -1,5 +1,5 @@
 -- The objects of a cluster as plain data, and what their types keep.
-use Rattle.std.specs.Prelude.{◌≡◌, ℕ, ◌≤◌, ◌==◌, List, [], ◌∷◌, length, Bool, true, false, IsTrue, Option, Some, None, ◌≢◌}
+use Rattle.std.specs.Prelude.{◌≡◌, ℕ, ◌≤◌, List, [], ◌∷◌, length, Bool, true, false, Option, ◌≢◌}
 use Rattle.std.specs.Option.{ForSome}
 use Rattle.std.specs.List.{AllByRecursion}
 use Rattle.std.specs.Str.{str_to_ascii_lowercase}
@@ -9,12 +9,10 @@ use Rattle.std.specs.Cmp.Lexicographic.{slice_cmp}
 use Rattle.cl_types.specs.declared.addr.Addr.{Addr}
 use Rattle.cl_types.specs.declared.addr.Addr.TheVariants.{V4, V6}
 use Rattle.cl_types.specs.declared.keys.PodKey.{PodKey}
-use Rattle.cl_types.specs.declared.keys.RuleKey.{RuleKey}
 use Rattle.cl_types.specs.declared.keys.Dir.{Dir}
 use Rattle.cl_types.specs.declared.keys.Dir.TheVariants.{Ingress, Egress}
 use Rattle.cl_types.specs.declared.keys.PolicyKind.{PolicyKind}
 use Rattle.cl_types.specs.declared.keys.PolicyKind.TheVariants.{Cluster, Antrea, Kube}
-use Rattle.cl_types.specs.declared.traffic.Action.{Action}
 use Rattle.cl_types.specs.declared.traffic.Action.TheVariants.{Allow, Pass}
 use Rattle.cl_types.specs.declared.traffic.NamedPort.{NamedPort}
 use Rattle.cl_types.specs.declared.traffic.Proto.{Proto}

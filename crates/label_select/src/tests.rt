@@ -47,28 +47,63 @@ fn selector(
     canon(alloc, needs)
 }
 
-// What the operator with these values at `app` selects: `app=web`, `app=job` and no labels.
-fn selects(rt: &impl Abort, alloc: Global, op: Op, words: &[&[u8]]) -> Result<[bool; 3], NoMemory> {
-    let selector = selector(rt, alloc, b"app", op, words)?;
-    let web = label(alloc, b"app", b"web")?;
-    let job = label(alloc, b"app", b"job")?;
-    let none = Labels::new(alloc);
-    Ok([
-        selector.selects(&web),
-        selector.selects(&job),
-        selector.selects(&none),
-    ])
+// The key, the operator and the values of a need.
+type Asked = (&'static [u8], Op, &'static [&'static [u8]]);
+
+// Lists of needs, and which of the labels `app=web`, `app=job` and none each selects.
+const SELECTORS: &[(&[Asked], [bool; 3])] = &[
+    (&[], [true, true, true]),
+    (
+        &[(b"app", Op::OneOf, &[b"db", b"web", b"db"])],
+        [true, false, false],
+    ),
+    (
+        &[(b"app", Op::NoneOf, &[b"db", b"web", b"db"])],
+        [false, true, true],
+    ),
+    (&[(b"app", Op::Present, &[])], [true, true, false]),
+    (&[(b"app", Op::Missing, &[])], [false, false, true]),
+    (
+        &[(b"app", Op::Present, &[]), (b"app", Op::NoneOf, &[b"job"])],
+        [true, false, false],
+    ),
+    (
+        &[(b"env", Op::Missing, &[]), (b"app", Op::Present, &[])],
+        [true, true, false],
+    ),
+    (
+        &[
+            (b"app", Op::OneOf, &[b"web"]),
+            (b"app", Op::OneOf, &[b"web"]),
+        ],
+        [true, false, false],
+    ),
+];
+
+fn selector_of(rt: &impl Abort, alloc: Global, asked: &[Asked]) -> Result<Selector, NoMemory> {
+    let mut needs = List::new(alloc);
+    for (key, op, words) in asked {
+        let need = need(rt, text(alloc, key)?, *op, texts(alloc, words)?);
+        needs.vec_mut().push(need)?;
+    }
+    canon(alloc, needs)
 }
 
 #[test]
-fn operators(rt: HostRuntime) -> Result<(), Fail> {
+fn selectors_and_labels(rt: HostRuntime) {
     let alloc = rt.alloc();
-    let values: &[&[u8]] = &[b"db", b"web", b"db"];
-    assert!(rt; selects(&rt, alloc, Op::OneOf, values)? == [true, false, false]);
-    assert!(rt; selects(&rt, alloc, Op::NoneOf, values)? == [false, true, true]);
-    assert!(rt; selects(&rt, alloc, Op::Present, &[])? == [true, true, false]);
-    assert!(rt; selects(&rt, alloc, Op::Missing, &[])? == [false, false, true]);
-    Ok(())
+    let web = made(&rt, label(alloc, b"app", b"web"));
+    let job = made(&rt, label(alloc, b"app", b"job"));
+    let none = Labels::new(alloc);
+    for (asked, wanted) in SELECTORS {
+        let selector = made(&rt, selector_of(&rt, alloc, asked));
+        let selects = [
+            selector.selects(&web),
+            selector.selects(&job),
+            selector.selects(&none),
+        ];
+        assert!(rt; selects == *wanted);
+    }
 }
 
 fn copies<T: Copies + Same + Drop>(value: &T) -> Result<bool, NoMemory> {

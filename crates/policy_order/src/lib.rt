@@ -7,3 +7,6 @@ mod services;
 mod side;
 
 pub use side::judge;
+
+#[cfg(test)]
+mod tests;

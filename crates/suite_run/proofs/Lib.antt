@@ -1,7 +1,4 @@
-pub mod AddressTexts
 pub mod Ending
-pub mod JsonViews
-pub mod KubeRules
 pub mod NoLongLines
 pub mod RefusedLines
 pub mod Revisions

@@ -1,5 +1,5 @@
 -- No line is longer than its text.
-use Rattle.std.proofs.Common.{◌≡◌, ℕ, suc, ◌+◌, ◌≤◌, Bool, true, false, eqb, cond, List, [], ◌∷◌, length, All, refl, arith}
+use Rattle.std.proofs.Common.{ℕ, suc, ◌≤◌, Bool, true, false, eqb, cond, List, [], ◌∷◌, length, All, arith}
 use Rattle.std.proofs.lemmas.List.Elements.{All-nil, All-cons, All-head, All-tail, All-weaker}
 use Rattle.cl_io.specs.Lines.{lines_of, led_by}
 use Rattle.suite_run.specs.World.{byte_limit}

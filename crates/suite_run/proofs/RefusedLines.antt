@@ -5,8 +5,9 @@ use Rattle.cluster_objects.specs.declared.change.Applied.TheVariants.{Changed, U
 use Rattle.cluster_objects.specs.declared.change.ClusterRefusal.{ClusterRefusal}
 use Rattle.cluster_objects.specs.declared.change.ClusterRefusal.TheVariants as cluster
 use Rattle.cluster_objects.specs.Apply.{apply, Outcome as Applying}
+use Rattle.policy_reader.specs.declared.item.Control.TheVariants.{Ask}
 use Rattle.suite_run.specs.declared.said.Said.{Said}
-use Rattle.suite_run.specs.declared.said.Said.TheVariants.{Object, Question, Blank, Refused}
+use Rattle.suite_run.specs.declared.said.Said.TheVariants.{Object, Control, Blank, Refused}
 use Rattle.suite_run.specs.declared.world.World.{World}
 use Rattle.suite_run.specs.Blocks.{block_text, world_after, blocks}
 use Rattle.suite_run.specs.Laws.{RefusedLinesChangeNothing, RefusedLinesAreAsBlank}
@@ -27,7 +28,7 @@ refused-changes node w (Err cluster.NoMemory) h = refl
 refused-step : (w : World) (s : Said) → IsTrue (is_refusal (step w s).outcome) → (step w s).world ≡ w
 unfolding step
 refused-step w (Object change) h = refused-changes (is_node change) w (apply w.cluster change) h
-refused-step w (Question ask) h = refl
+refused-step w (Control (Ask node question)) h = refl
 refused-step w Blank h = refl
 refused-step w (Refused r) h = refl
 

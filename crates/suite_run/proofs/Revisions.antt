@@ -5,8 +5,9 @@ use Rattle.cluster_objects.specs.declared.change.Applied.TheVariants.{Changed, U
 use Rattle.cluster_objects.specs.declared.change.ClusterRefusal.{ClusterRefusal}
 use Rattle.cluster_objects.specs.declared.change.ClusterRefusal.TheVariants as cluster
 use Rattle.cluster_objects.specs.Apply.{apply, Outcome}
+use Rattle.policy_reader.specs.declared.item.Control.TheVariants.{Ask}
 use Rattle.suite_run.specs.declared.said.Said.{Said}
-use Rattle.suite_run.specs.declared.said.Said.TheVariants.{Object, Question, Blank, Refused}
+use Rattle.suite_run.specs.declared.said.Said.TheVariants.{Object, Control, Blank, Refused}
 use Rattle.suite_run.specs.declared.world.World.{World}
 use Rattle.suite_run.specs.World.{step, changes, applied, is_node}
 
@@ -24,6 +25,6 @@ revision-changes node w (Err cluster.NoMemory) = omega arith
 pub revision-step : (w : World) (s : Said) → (step w s).world.revision ≤ w.revision + 1
 unfolding step
 revision-step w (Object change) = revision-changes (is_node change) w (apply w.cluster change)
-revision-step w (Question ask) = omega arith
+revision-step w (Control (Ask node question)) = omega arith
 revision-step w Blank = omega arith
 revision-step w (Refused r) = omega arith

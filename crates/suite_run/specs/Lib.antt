@@ -1,12 +1,7 @@
 pub mod Blocks
 pub mod Exit
-pub mod Fields
-pub mod Item
 pub mod Laws
-pub mod ReadLine
-pub mod ReadObjects
 pub mod Run
 pub mod Shown
-pub mod Texts
 pub mod Words
 pub mod World

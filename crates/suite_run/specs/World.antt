@@ -2,6 +2,7 @@
 use Rattle.std.specs.Prelude.{ℕ, ◌+◌, List, length, Bool, true, false, ◌&&◌, nat_lt, if◌then◌else◌, Result, Ok, Err}
 use Rattle.std.specs.List.{list_any}
 use Rattle.cl_types.specs.Equality.{text_eq}
+use Rattle.cl_types.specs.declared.traffic.Question.{Question}
 use Rattle.cl_types.specs.Judgement.{Judgement}
 use Rattle.cluster_objects.specs.declared.change.Applied.{Applied}
 use Rattle.cluster_objects.specs.declared.change.Applied.TheVariants.{Changed, Unchanged}
@@ -14,17 +15,17 @@ use Rattle.cluster_objects.specs.Apply.{apply, Outcome as Applying}
 use Rattle.cluster_objects.specs.Evaluation.{side}
 use Rattle.cluster_objects.specs.Objects.{NodeData}
 use Rattle.cluster_objects.specs.State.{ClusterData, no_objects}
-use Rattle.suite_run.specs.declared.item.Ask.{Ask}
-use Rattle.suite_run.specs.declared.item.LineItem.{LineItem}
-use Rattle.suite_run.specs.declared.item.LineItem.TheVariants as item
-use Rattle.suite_run.specs.declared.item.ReadRefusal.{ReadRefusal}
-use Rattle.suite_run.specs.declared.item.ReadRefusal.TheVariants as reading
+use Rattle.policy_reader.specs.declared.item.Control.TheVariants.{Ask}
+use Rattle.policy_reader.specs.declared.item.LineItem.{LineItem}
+use Rattle.policy_reader.specs.declared.item.LineItem.TheVariants as item
+use Rattle.policy_reader.specs.declared.item.ReadRefusal.{ReadRefusal}
+use Rattle.policy_reader.specs.declared.item.ReadRefusal.TheVariants as reading
 use Rattle.suite_run.specs.declared.said.Refusal.{Refusal}
 use Rattle.suite_run.specs.declared.said.Refusal.TheVariants.{NotJson, NotBuilt, TooLong, NodesFixed, AddressInUse, NoNode}
 use Rattle.suite_run.specs.declared.said.Said.{Said}
-use Rattle.suite_run.specs.declared.said.Said.TheVariants.{Object, Question, Blank, Refused}
+use Rattle.suite_run.specs.declared.said.Said.TheVariants.{Object, Control, Blank, Refused}
 use Rattle.suite_run.specs.declared.world.World.{World}
-use Rattle.suite_run.specs.ReadLine.{read_line}
+use Rattle.policy_reader.specs.ReadLine.{read_line}
 
 -- ---- what a line says
 
@@ -35,7 +36,7 @@ byte_limit = 1048576
 -- (a reader that had no memory says nothing of its line)
 abbrev pub said_of : Result LineItem ReadRefusal → Said
 said_of (Ok (item.Object change)) = Object change
-said_of (Ok (item.Ask ask)) = Question ask
+said_of (Ok (item.Control control)) = Control control
 said_of (Ok item.Blank) = Blank
 said_of (Err reading.NotJson) = Refused NotJson
 said_of (Err reading.NotBuilt) = Refused NotBuilt
@@ -107,12 +108,12 @@ abbrev pub is_listed : ClusterData → List ℕ → Bool
 is_listed c name = c.fixed && list_any (λ (n : NodeData). text_eq n.name name) c.nodes
 
 -- the answer to a question
-abbrev pub answer : World → Ask → Outcome
-answer w ask = if is_listed w.cluster ask.node then judged w.revision (side w.cluster ask.node ask.question) else refused NoNode
+abbrev pub answer : World → List ℕ → Question → Outcome
+answer w node question = if is_listed w.cluster node then judged w.revision (side w.cluster node question) else refused NoNode
 
 unfoldable pub step : World → Said → Step
 step w (Object change) = changes (is_node change) w (apply w.cluster change)
-step w (Question ask) = tells w (answer w ask)
+step w (Control (Ask node question)) = tells w (answer w node question)
 step w Blank = tells w silent
 step w (Refused r) = tells w (refused r)
 

@@ -2,22 +2,11 @@
 #![tactic(auto)]
 
 mod blocks;
-mod item;
-mod json;
 mod laws;
-mod metadata;
-mod nodes;
-mod pods;
-mod policies;
-mod questions;
-mod reader;
 mod replay;
-mod rules;
 mod said;
-mod selectors;
 mod site;
 mod status;
-mod texts;
 mod top;
 mod turn;
 mod words;
@@ -28,7 +17,5 @@ pub use site::Site;
 pub use status::Status;
 pub use top::calm;
 
-#[cfg(test)]
-mod rows;
 #[cfg(test)]
 mod tests;

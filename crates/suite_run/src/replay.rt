@@ -31,21 +31,20 @@ pub(crate) fn replay<F: Files, O: Sink>(
     };
     let mut refused = false;
     for number in 1..u64::MAX {
-        match lines.next(files) {
+        let line = match lines.next(files) {
+            Ok(line) => line,
             Err(fault) => return Status::of_fault(fault),
-            Ok(line) => {
-                if is_end(&line) {
-                    return Status::of_whole(refused);
-                }
-                let Ok(block) = turn(alloc, &mut world, number, &line) else {
-                    return Status::NoMemory;
-                };
-                if put(out, block.text.as_slice()).is_err() {
-                    return Status::WriteFault;
-                }
-                refused = refused || block.refusal;
-            }
+        };
+        if is_end(&line) {
+            return Status::of_whole(refused);
         }
+        let Ok(block) = turn(alloc, &mut world, number, &line) else {
+            return Status::NoMemory;
+        };
+        if put(out, block.text.as_slice()).is_err() {
+            return Status::WriteFault;
+        }
+        refused = refused || block.refusal;
     }
     Status::InputTooLong
 }

@@ -1,16 +1,15 @@
 //! What a line says, or why it is refused.
 ghost use Rattle.std.specs.Prelude.{◌≡◌, ℕ, List, [], ◌∷◌, IfOk, Result};
 ghost use Rattle.cl_io.specs.Answers.{Hands, KeepsLimit};
-ghost use Rattle.suite_run.specs.declared.item.LineItem.{LineItem};
-ghost use Rattle.suite_run.specs.declared.item.ReadRefusal.{ReadRefusal};
-ghost use Rattle.suite_run.specs.Item.{Gives};
+ghost use Rattle.policy_reader.specs.declared.item.LineItem.{LineItem};
+ghost use Rattle.policy_reader.specs.declared.item.ReadRefusal.{ReadRefusal};
+ghost use Rattle.policy_reader.specs.Item.{Gives};
 ghost use Rattle.suite_run.specs.World.{byte_limit, said, said_of};
 
-use crate::item::{Ask, LineItem, ReadRefusal};
-use crate::reader::read_line;
 use cl_io::Line;
 use cl_types::{NoMemory, PodKey};
 use cluster_objects::Change;
+use policy_reader::{Control, LineItem, ReadRefusal, read_line};
 use std::alloc::Global;
 
 /// Why a line is refused.
@@ -29,7 +28,7 @@ pub(crate) enum Refusal {
 #[derive(Debug, Drop)]
 pub(crate) enum Said {
     Object(Change),
-    Question(Ask),
+    Control(Control),
     Blank,
     Refused(Refusal),
 }
@@ -52,7 +51,7 @@ fn heard(read: Result<LineItem, ReadRefusal>) -> Result<Said, NoMemory>
 {
     match read {
         Ok(LineItem::Object(change)) => Ok(Said::Object(change)),
-        Ok(LineItem::Ask(ask)) => Ok(Said::Question(ask)),
+        Ok(LineItem::Control(control)) => Ok(Said::Control(control)),
         Ok(LineItem::Blank) => Ok(Said::Blank),
         Err(ReadRefusal::NotJson) => Ok(Said::Refused(Refusal::NotJson)),
         Err(ReadRefusal::NotBuilt) => Ok(Said::Refused(Refusal::NotBuilt)),

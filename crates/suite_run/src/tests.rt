@@ -1,8 +1,10 @@
 use crate::{Site, Status, calm};
 use cl_io::{MemFiles, MemSink, NamedBytes};
-use cl_types::{List, Text};
+use cl_types::{List, NoMemory, Text};
 use std::alloc::{AllocError, Global};
-use std::test::Fail;
+use std::process::Abort;
+
+mod rows;
 
 // What a run over files and sinks in memory came to.
 #[derive(Drop)]
@@ -37,32 +39,50 @@ fn text(alloc: Global, bytes: &[u8]) -> Result<Text, AllocError> {
     Ok(Text::of(bytes.to_vec(alloc)?))
 }
 
-// Replays the file `F` of these bytes.
-pub(crate) fn replayed(
-    alloc: Global,
-    words: &[&str],
-    bytes: &[u8],
-    faults: Faults,
-) -> Result<Ran, Fail> {
-    let mut given = Vec::new(alloc);
+fn strings(alloc: Global, words: &[&str]) -> Result<Vec<String>, AllocError> {
+    let mut strings = Vec::new(alloc);
     for word in words {
-        given.push(String::from_str(alloc, word)?)?;
+        strings.push(String::from_str(alloc, word)?)?;
     }
+    Ok(strings)
+}
+
+// The file `F` of these bytes, read in pieces of two. It is known that there is no file `nofile`.
+fn file_of(alloc: Global, bytes: &[u8], faults: &Faults) -> Result<MemFiles, NoMemory> {
     let mut files = Vec::new(alloc);
     files.push(NamedBytes {
         name: text(alloc, b"F")?,
         bytes: text(alloc, bytes)?,
     })?;
-    let mut files = MemFiles::new(
+    let mut missing = Vec::new(alloc);
+    missing.push(text(alloc, b"nofile")?)?;
+    let fail_calls = List::of(faults.files.to_vec(alloc)?);
+    MemFiles::new(
         alloc,
         List::of(files),
-        List::new(alloc),
+        List::of(missing),
         2,
-        List::of(faults.files.to_vec(alloc)?),
+        fail_calls,
         faults.file_at,
-    )?;
-    let mut out = MemSink::new(alloc, List::of(faults.out.to_vec(alloc)?), 1, 999)?;
-    let mut err = MemSink::new(alloc, List::of(faults.err.to_vec(alloc)?), 9, 999)?;
+    )
+}
+
+fn sink_of(alloc: Global, fail_calls: &[u64]) -> Result<MemSink, NoMemory> {
+    MemSink::new(alloc, List::of(fail_calls.to_vec(alloc)?), 1, 999)
+}
+
+// Runs the words over the file `F` of these bytes.
+pub(crate) fn replayed(
+    rt: &impl Abort,
+    alloc: Global,
+    words: &[&str],
+    bytes: &[u8],
+    faults: Faults,
+) -> Ran {
+    let given = strings(alloc, words).expect(rt, "memory");
+    let mut files = file_of(alloc, bytes, &faults).expect(rt, "memory");
+    let mut out = sink_of(alloc, faults.out).expect(rt, "memory");
+    let mut err = sink_of(alloc, faults.err).expect(rt, "memory");
     let status = calm(
         alloc,
         &given,
@@ -71,19 +91,24 @@ pub(crate) fn replayed(
         &mut err,
         &mut Site::new(),
     );
-    Ok(Ran {
+    Ran {
         status,
-        out: out.written().to_vec(alloc)?,
-        err: err.written().to_vec(alloc)?,
-    })
+        out: out.written().to_vec(alloc).expect(rt, "memory"),
+        err: err.written().to_vec(alloc).expect(rt, "memory"),
+    }
 }
 
 #[test]
-fn words_that_are_no_command(rt: HostRuntime) -> Result<(), Fail> {
-    let alloc = rt.alloc();
-    let cases: [&[&str]; 4] = [&[], &["replay"], &["replay", "F", "F"], &["check", "F"]];
+fn words_that_are_no_command(rt: HostRuntime) {
+    let cases: [&[&str]; 5] = [
+        &[],
+        &["replay"],
+        &["replay", "F", "F"],
+        &["check", "F"],
+        &["replay", "--ring", "0", "F"],
+    ];
     for words in cases {
-        let ran = replayed(alloc, words, LINES, NONE)?;
+        let ran = replayed(&rt, rt.alloc(), words, LINES, NONE);
         assert_eq!(rt; ran.status.exit_code(), 2);
         assert!(rt; ran.out.is_empty());
         assert_eq!(rt;
@@ -91,77 +116,96 @@ fn words_that_are_no_command(rt: HostRuntime) -> Result<(), Fail> {
             b"usage: antrea check FILE... | replay [--ring N] FILE... | live [--ring N] FILE... | drill N\n".as_slice()
         );
     }
-    Ok(())
+}
+
+// A run over the two lines that ends with the status, after this many bytes of the blocks, and says so.
+fn ends(rt: &impl Abort, alloc: Global, faults: Faults, status: u8, count: usize, said: &[u8]) {
+    let ran = replayed(rt, alloc, &["replay", "F"], LINES, faults);
+    assert_eq!(rt; ran.status.exit_code(), status);
+    assert_eq!(rt; ran.out.len(), count);
+    assert!(rt; BLOCKS.starts_with(ran.out.as_slice()));
+    assert_eq!(rt; ran.err.as_slice(), said);
 }
 
 #[test]
-fn faults_of_files_and_sinks(rt: HostRuntime) -> Result<(), Fail> {
-    let alloc = rt.alloc();
-    let cases: [(Faults, u8, usize, &[u8]); 8] = [
-        (NONE, 1, 38, b""),
-        (
-            Faults {
-                files: &[1],
-                ..NONE
-            },
-            3,
-            0,
-            b"antrea: cannot open F\n",
-        ),
-        (
-            Faults {
-                files: &[1],
-                err: &[1],
-                ..NONE
-            },
-            3,
-            0,
-            b"",
-        ),
-        (
-            Faults {
-                file_at: Some(0),
-                ..NONE
-            },
-            4,
-            0,
-            b"antrea: cannot read F\n",
-        ),
-        (
-            Faults {
-                file_at: Some(2),
-                ..NONE
-            },
-            4,
-            19,
-            b"antrea: cannot read F\n",
-        ),
-        (
-            Faults {
-                file_at: Some(4),
-                ..NONE
-            },
-            4,
-            38,
-            b"antrea: cannot read F\n",
-        ),
-        (Faults { out: &[1], ..NONE }, 5, 0, b""),
-        (Faults { out: &[38], ..NONE }, 5, 37, b""),
-    ];
-    for (faults, status, count, err) in cases {
-        let ran = replayed(alloc, &["replay", "F"], LINES, faults)?;
-        assert_eq!(rt; ran.status.exit_code(), status);
-        assert_eq!(rt; ran.out.len(), count);
-        assert!(rt; BLOCKS.starts_with(ran.out.as_slice()));
-        assert_eq!(rt; ran.err.as_slice(), err);
+fn faults_of_files_and_sinks(rt: HostRuntime) {
+    let unopened: &[u8] = b"antrea: cannot open F\n";
+    let unreadable: &[u8] = b"antrea: cannot read F\n";
+    ends(&rt, rt.alloc(), NONE, 1, 38, b"");
+    ends(
+        &rt,
+        rt.alloc(),
+        Faults {
+            files: &[1],
+            ..NONE
+        },
+        3,
+        0,
+        unopened,
+    );
+    // The words on standard error fail at their first byte, and after the words before the name.
+    ends(
+        &rt,
+        rt.alloc(),
+        Faults {
+            files: &[1],
+            err: &[1],
+            ..NONE
+        },
+        3,
+        0,
+        b"",
+    );
+    ends(
+        &rt,
+        rt.alloc(),
+        Faults {
+            files: &[1],
+            err: &[21],
+            ..NONE
+        },
+        3,
+        0,
+        &unopened[..20],
+    );
+    // A read fails after so many bytes: the blocks of the lines that are whole by then are written.
+    for (place, count) in [0, 0, 19, 19, 38].into_iter().enumerate() {
+        let faults = Faults {
+            file_at: Some(place as u64),
+            ..NONE
+        };
+        ends(&rt, rt.alloc(), faults, 4, count, unreadable);
     }
-    Ok(())
+    // Each write of one byte fails.
+    for call in 1..39 {
+        ends(
+            &rt,
+            rt.alloc(),
+            Faults {
+                out: &[call],
+                ..NONE
+            },
+            5,
+            call as usize - 1,
+            b"",
+        );
+    }
 }
 
 #[test]
-fn an_empty_file_prints_nothing(rt: HostRuntime) -> Result<(), Fail> {
-    let ran = replayed(rt.alloc(), &["replay", "F"], b"", NONE)?;
+fn a_missing_file(rt: HostRuntime) {
+    let ran = replayed(&rt, rt.alloc(), &["replay", "nofile"], LINES, NONE);
+    assert_eq!(rt; ran.status.exit_code(), 3);
+    assert!(rt; ran.out.is_empty());
+    assert_eq!(rt;
+        ran.err.as_slice(),
+        b"antrea: cannot open nofile\n".as_slice()
+    );
+}
+
+#[test]
+fn an_empty_file_prints_nothing(rt: HostRuntime) {
+    let ran = replayed(&rt, rt.alloc(), &["replay", "F"], b"", NONE);
     assert_eq!(rt; ran.status, Status::Done);
     assert!(rt; ran.out.is_empty());
-    Ok(())
 }

@@ -9,6 +9,7 @@ use crate::said::{Said, hear};
 use crate::world::{Answer, World};
 use cl_io::Line;
 use cl_types::NoMemory;
+use policy_reader::Control;
 use std::alloc::Global;
 
 /// Takes the line that was handed out as the one with this number.
@@ -33,7 +34,9 @@ fn take(alloc: Global, world: &mut World, number: u64, said: Said) -> Result<Blo
 {
     match said {
         Said::Object(change) => block_of(alloc, number, &world.change(change)?),
-        Said::Question(ask) => block_of(alloc, number, &world.answer(&ask)),
+        Said::Control(Control::Ask { node, question }) => {
+            block_of(alloc, number, &world.answer(&node, &question))
+        }
         Said::Blank => block_of(alloc, number, &Answer::Silent),
         Said::Refused(refusal) => block_of(alloc, number, &Answer::Refused(refusal)),
     }

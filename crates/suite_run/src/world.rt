@@ -7,9 +7,8 @@ ghost use Rattle.cluster_objects.specs.Objects.{NodeData};
 ghost use Rattle.suite_run.specs.Shown.{outcome_of};
 ghost use Rattle.suite_run.specs.World.{first_world, is_node, is_listed, answer, changes, differs};
 
-use crate::item::Ask;
 use crate::said::Refusal;
-use cl_types::{Judged, NoMemory, Text};
+use cl_types::{Judged, NoMemory, Question, Text};
 use cluster_objects::{Applied, Change, Cluster, ClusterRefusal, NodeInfo, Object};
 use policy_order::judge;
 use std::alloc::Global;
@@ -89,14 +88,11 @@ impl World {
     }
 
     /// Answers a question.
-    pub(crate) fn answer(&self, ask: &Ask) -> Answer<'_>
-        ensures { outcome_of result ≡ answer self.now ask.now }
+    pub(crate) fn answer(&self, node: &Text, question: &Question) -> Answer<'_>
+        ensures { outcome_of result ≡ answer self.now node.now question.now }
     {
-        if self.is_listed(&ask.node) {
-            Answer::Controller(
-                self.revision,
-                judge(&self.cluster, &ask.node, &ask.question),
-            )
+        if self.is_listed(node) {
+            Answer::Controller(self.revision, judge(&self.cluster, node, question))
         } else {
             Answer::Refused(Refusal::NoNode)
         }

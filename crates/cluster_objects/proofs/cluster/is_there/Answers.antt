@@ -1,4 +1,4 @@
-use Rattle.std.proofs.Common.{sym, ◌∙◌, ap}
+use Rattle.std.proofs.Common.{◌∙◌, ap}
 use Rattle.cl_types.specs.EqualityLaws.{is_same-decided}
 use Rattle.cl_types.specs.Equality.{is_same}
 use Rattle.cluster_objects.specs.Apply.{is_there}

@@ -1,0 +1,3 @@
+pub mod AddressTexts
+pub mod JsonViews
+pub mod KubeRules

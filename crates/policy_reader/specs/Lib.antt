@@ -1,0 +1,5 @@
+pub mod Fields
+pub mod Item
+pub mod ReadLine
+pub mod ReadObjects
+pub mod Texts
