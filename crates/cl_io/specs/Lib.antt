@@ -2,6 +2,7 @@ pub mod Answers
 pub mod Causes
 pub mod Files
 pub mod Front
+pub mod Holding
 pub mod Lines
 pub mod Memory
 pub mod Reading

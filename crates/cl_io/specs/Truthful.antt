@@ -5,7 +5,9 @@ use Rattle.std.proofs.lemmas.List.{take-append-drop}
 use Rattle.cl_io.specs.declared.mem_files.NamedBytes.{NamedBytes}
 use Rattle.cl_io.specs.declared.mem_files.Part.{Part}
 use Rattle.cl_io.specs.Files.{IsOfContent}
-use Rattle.cl_io.specs.Memory.{content_of, name_at, entry_of, where_told}
+use Rattle.cl_io.specs.declared.mem_files.MemFiles.{MemFiles}
+use Rattle.cl_io.specs.Holding.{entries_taken, file_content}
+use Rattle.cl_io.specs.Memory.{content_of, name_at, entry_of, parts_of, where_told}
 
 truthful_entry : (content : List ℕ → List ℕ) (name : List ℕ) (count : ℕ) (ended : Bool) →
     IsOfContent content (record { name = name; bytes = (if ended then content name else take count (content name)); ended = ended })
@@ -25,3 +27,6 @@ truthful_entries files (part ∷ parts) =
 pub truthful_parts : (files : List NamedBytes) (told : Bool) (parts : List Part) → IfSome (where_told told (map (entry_of files) parts)) (All (IsOfContent (content_of files)))
 truthful_parts files true parts = truthful_entries files parts
 truthful_parts files false parts = tt
+
+pub truthful_files : (m : MemFiles) → IfSome (entries_taken m) (All (IsOfContent (file_content m)))
+truthful_files m = truthful_parts m.files m.log.told (parts_of m.log.earlier.items m.log.current)

@@ -164,27 +164,26 @@ impl MemFiles {
 }
 
 impl Files for MemFiles {
-    ghost use Rattle.cl_io.specs.Truthful.{truthful_parts};
+    ghost use Rattle.cl_io.specs.Holding.{file_content, names_tried, entries_taken, knows_name, places_left, file_faults, is_steady, file_is_there};
+    ghost use Rattle.cl_io.specs.Truthful.{truthful_files};
 
-    ghost content = { λ m. content_of m.files };
+    ghost content = { file_content };
 
-    ghost tried = { λ m. where_told m.log.told
-        (map (tried_name m.files m.missing) m.log.tried.items) };
+    ghost tried = { names_tried };
 
-    ghost taken = { λ m. where_told m.log.told
-        (map (entry_of m.files) (parts_of m.log.earlier.items m.log.current)) };
+    ghost taken = { entries_taken };
 
-    ghost knows = { λ m. is_known m.files m.missing };
+    ghost knows = { knows_name };
 
-    ghost places = { λ m. m.log.places };
+    ghost places = { places_left };
 
-    ghost faults = { λ m. m.script.faults };
+    ghost faults = { file_faults };
 
-    ghost steady = { λ m. is_empty m.script.fail_calls && is_none m.fail_at };
+    ghost steady = { is_steady };
 
-    ghost there = { λ m. has_file m.files };
+    ghost there = { file_is_there };
 
-    ghost truthful = { λ m. truthful_parts m.files m.log.told (parts_of m.log.earlier.items m.log.current) };
+    ghost truthful = { truthful_files };
 
     fn begin(&mut self, name: &Text) -> Result<(), Failed> {
         let fails = self.script.fails();

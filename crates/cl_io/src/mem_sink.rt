@@ -58,15 +58,15 @@ impl MemSink {
 }
 
 impl Sink for MemSink {
-    ghost use Rattle.cl_io.specs.Memory.{is_empty};
+    ghost use Rattle.cl_io.specs.Holding.{bytes_written, sink_faults, is_steady_sink, room_left};
 
-    ghost written = { λ sink. Some sink.bytes.items };
+    ghost written = { bytes_written };
 
-    ghost faults = { λ sink. sink.script.faults };
+    ghost faults = { sink_faults };
 
-    ghost steady = { λ sink. is_empty sink.script.fail_calls };
+    ghost steady = { is_steady_sink };
 
-    ghost free = { λ sink. Some sink.room };
+    ghost free = { room_left };
 
     fn write(&mut self, bytes: &[u8]) -> Result<usize, Failed> {
         let count = (bytes.len() as u64)

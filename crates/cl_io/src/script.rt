@@ -40,6 +40,7 @@ impl Script {
     // Counts a failure.
     pub fn fail(&mut self) -> Failed
         ensures calls { self.new.fail_calls ≡ self.old.fail_calls }
+        ensures counted { self.new.calls ≡ self.old.calls }
         ensures rose { Rose self.old.faults self.new.faults }
         ensures later { self.old.faults ≤ self.new.faults }
     {

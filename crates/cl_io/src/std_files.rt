@@ -43,7 +43,9 @@ impl<R: std::rt::Files + Input> Files for StdFiles<R> {
 
     ghost places = { λ _. 0 };
 
-    ghost faults = { λ files. files.faults };
+    ghost use Rattle.cl_io.specs.Holding.{outer_file_faults};
+
+    ghost faults = { outer_file_faults };
 
     ghost steady = { λ _. false };
 

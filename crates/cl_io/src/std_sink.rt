@@ -22,7 +22,9 @@ impl<W: Write> StdSink<W> {
 impl<W: Write> Sink for StdSink<W> {
     ghost written = { λ _. None };
 
-    ghost faults = { λ sink. sink.faults };
+    ghost use Rattle.cl_io.specs.Holding.{outer_sink_faults};
+
+    ghost faults = { outer_sink_faults };
 
     ghost steady = { λ _. false };
 
