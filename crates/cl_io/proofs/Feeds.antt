@@ -1,9 +1,9 @@
 -- Lines of a text, from its front.
-use Rattle.std.proofs.Common.{◌≡◌, ◌≢◌, ℕ, suc, ◌+◌, Bool, true, false, eqb, cond, List, [], ◌∷◌, ◌++◌, All, refl, sym, ap, ◌∙◌, append_assoc, arith, ◌-◌, ◌≤◌, ltb, length, take}
+use Rattle.std.proofs.Common.{◌≡◌, ◌≢◌, ℕ, suc, Bool, true, false, eqb, cond, List, [], ◌∷◌, ◌++◌, All, refl, ap, ◌∙◌, arith, ◌-◌, ◌≤◌, ltb, length, take}
 use Rattle.std.proofs.lemmas.Bool.Decides.{nat_tests}
-use Rattle.cl_io.specs.Files.{Entry, read_last, read_entry, names_of, byte_count}
+use Rattle.cl_io.specs.Files.{Entry, read_last, read_entry, byte_count}
 use Rattle.cl_io.specs.Front.{HasNoFeed}
-use Rattle.cl_io.specs.Lines.{lines_of, led_by, whole_lines, first_bytes}
+use Rattle.cl_io.specs.Lines.{lines_of, led_by, first_bytes}
 
 pub All-tail : {A : Type 0} (P : A → Type 0) (x : A) (xs : List A) → All P (x ∷ xs) → All P xs
 All-tail P x xs h = λ k d lt. h (suc k) d (omega arith)
@@ -34,19 +34,6 @@ pub lines_of-last : (b : ℕ) (line : List ℕ) → HasNoFeed (b ∷ line) → l
 lines_of-last b [] h = led true b [] (All-head (λ x. x ≢ 10) b [] h)
 lines_of-last b (c ∷ line) h =
     led true b (c ∷ line) (All-head (λ x. x ≢ 10) b (c ∷ line) h) ∙ ap (led_by true b) (lines_of-last c line (All-tail (λ x. x ≢ 10) b (c ∷ line) h))
-
-pub whole_lines-append : (xs ys : List Entry) → whole_lines (xs ++ ys) ≡ whole_lines xs ++ whole_lines ys
-whole_lines-append [] ys = refl
-whole_lines-append (x ∷ xs) ys =
-    ap (λ z. lines_of x.ended x.bytes ++ z) (whole_lines-append xs ys) ∙ sym (append_assoc (lines_of x.ended x.bytes) (whole_lines xs) (whole_lines ys))
-
-pub names_of-append : (xs ys : List Entry) → names_of (xs ++ ys) ≡ names_of xs ++ names_of ys
-names_of-append [] ys = refl
-names_of-append (x ∷ xs) ys = ap (λ z. x.name ∷ z) (names_of-append xs ys)
-
-pub byte_count-append : (xs ys : List Entry) → byte_count (xs ++ ys) ≡ byte_count xs + byte_count ys
-byte_count-append [] ys = omega arith
-byte_count-append (x ∷ xs) ys = omega (arith, byte_count-append xs ys)
 
 pub read_last-append : (bytes : List ℕ) (xs : List Entry) (x : Entry) → read_last bytes (xs ++ x ∷ []) ≡ xs ++ read_entry bytes x ∷ []
 read_last-append bytes [] x = refl

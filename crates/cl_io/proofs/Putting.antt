@@ -1,11 +1,12 @@
 -- One write after another to a sink.
-use Rattle.std.proofs.Common.{◌≡◌, ℕ, ◌+◌, ◌<◌, ◌≤◌, Bool, IsTrue, Option, Some, None, IfSome, List, [], ◌++◌, length, take, drop, refl, sym, ap, ◌∙◌, append_assoc, Result, Ok, Err, IsErr, OnOk, add-zero, arith, rules, length-append, ◌-◌, subst}
+use Rattle.std.proofs.Common.{◌≡◌, ℕ, ◌+◌, ◌<◌, ◌≤◌, Bool, IsTrue, Option, Some, None, IfSome, List, [], ◌++◌, length, take, drop, refl, sym, ap, ◌∙◌, append_assoc, Result, Ok, Err, IsErr, OnOk, add-zero, arith, length-append, ◌-◌, subst}
 use Rattle.std.proofs.lemmas.List.{take-append-drop}
 use Rattle.std.proofs.lemmas.List.{length-take-le}
 use Rattle.std.proofs.Math.Seq.{take-append_seam}
 use Rattle.std.proofs.lemmas.Slice.{between_to_end}
 use Rattle.cl_io.specs.Sink.{Lowers, Takes}
 use Rattle.cl_io.specs.Telling.{Adds}
+use Rattle.cl_io.specs.TellingLaws.{Adds-none, Adds-more, Lowers-none, Lowers-more}
 
 -- what is known of a sink
 pub record Place : Type 0 where
@@ -27,26 +28,6 @@ pub record Putting (old now : Place) (bytes rest : List ℕ) : Type 0 where
   pub later : old.faults ≤ now.faults
   pub steady : IsTrue old.steady → IsTrue now.steady
   pub faultless : Faultless old (length bytes) now.faults
-
-pub Adds-none : {A : Type 0} (o : Option (List A)) → Adds o [] o
-Adds-none None = tt
-Adds-none (Some x) = search rules
-
-pub Adds-more : {A : Type 0} (a : Option (List A)) (x : List A) (b : Option (List A)) (y : List A) (c : Option (List A)) → Adds a x b → Adds b y c → Adds a (x ++ y) c
-Adds-more a x b y None p q = tt
-Adds-more a x None y (Some c) p q = absurd q
-Adds-more None x (Some b) y (Some c) p q = absurd p
-Adds-more (Some a) x (Some b) y (Some c) p q = q ∙ ap (λ z. z ++ y) p ∙ append_assoc a x y
-
-pub Lowers-none : (o : Option ℕ) → Lowers o 0 o
-Lowers-none None = tt
-Lowers-none (Some x) = omega arith
-
-pub Lowers-more : (a : Option ℕ) (x : ℕ) (b : Option ℕ) (y : ℕ) (c : Option ℕ) → Lowers a x b → Lowers b y c → Lowers a (x + y) c
-Lowers-more None x b y c p q = tt
-Lowers-more (Some a) x None y c p q = absurd p
-Lowers-more (Some a) x (Some b) y None p q = absurd q
-Lowers-more (Some a) x (Some b) y (Some c) p q = omega arith
 
 pub Putting-none : (old : Place) (bytes : List ℕ) → Putting old old bytes bytes
 Putting-none old bytes = record {

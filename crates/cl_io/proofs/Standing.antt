@@ -9,9 +9,10 @@ use Rattle.cl_io.specs.Front.{HasNoFeed}
 use Rattle.cl_io.specs.Lines.{lines_of, whole_lines, first_bytes}
 use Rattle.cl_io.specs.Reading.{Reading, Told, told, IsBetween, IsAmid, Took, Stands, IsFinished, IsUnopened, IsUnreadable, IsOverfull}
 use Rattle.cl_io.specs.Telling.{Adds, AddsSome}
+use Rattle.cl_io.specs.TellingLaws.{Adds-more, AddsSome-weaker}
 use Rattle.cl_io.specs.Turns.{with_pending, next_name, after_begin}
-use Rattle.cl_io.proofs.Feeds.{lines_of-feed, lines_of-open, lines_of-last, whole_lines-append, names_of-append, byte_count-append, read_last-append}
-use Rattle.cl_io.proofs.Putting.{Adds-more}
+use Rattle.cl_io.specs.LinesLaws.{whole_lines-append, names_of-append, byte_count-append}
+use Rattle.cl_io.proofs.Feeds.{lines_of-feed, lines_of-open, lines_of-last, read_last-append}
 
 -- What is told
 
@@ -32,12 +33,6 @@ AddsSome-map {A} a P Q b c f p e g = let R : Option (List A) → Type 0 = λ z. 
     mapped a None p = tt
     mapped None (Some b) p = absurd p
     mapped (Some a) (Some b) p = let w = g a p.0 p.2 in (w.0, ap f p.1 ∙ w.1, w.2)
-
-pub AddsSome-weaker : {A : Type 0} (a : Option (List A)) (P Q : List A → Type 0) (b : Option (List A)) →
-    AddsSome a P b → ((more : List A) → P more → Q more) → AddsSome a Q b
-AddsSome-weaker a P Q None p f = tt
-AddsSome-weaker None P Q (Some b) p f = absurd p
-AddsSome-weaker (Some a) P Q (Some b) p f = (p.0, p.1, f p.0 p.2)
 
 -- Lines
 

@@ -3,10 +3,14 @@ pub mod Causes
 pub mod Files
 pub mod Front
 pub mod Holding
+pub mod Keeping
+pub mod KeepingLaws
 pub mod Lines
+pub mod LinesLaws
 pub mod Memory
 pub mod Reading
 pub mod Sink
 pub mod Telling
+pub mod TellingLaws
 pub mod Truthful
 pub mod Turns

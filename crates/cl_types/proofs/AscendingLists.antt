@@ -1,11 +1,11 @@
 -- What a search finds in an ascending list, and what an edit at that place does.
 use Rattle.std.proofs.Common.{◌≡◌, ℕ, zero, suc, ◌+◌, ◌<◌, ◌≤◌, List, [], ◌∷◌, length, get_or, set, Some, None, Result, Ok, Err, IfOk, IfErr, refl, sym, ap, ◌∙◌, arith}
-use Rattle.std.specs.List.{insert, AllByRecursion, AllWithin, HoldsAt}
+use Rattle.std.specs.List.{insert, AllWithin, HoldsAt}
 use Rattle.std.specs.List.Sorted.{IsSearchInRange, IsBinarySearchResult, IsSortedBy}
 use Rattle.std.specs.declared.cmp.Ordering.{Ordering}
 use Rattle.std.specs.declared.cmp.Ordering.TheVariants.{Less, Equal, Greater}
 use Rattle.std.specs.Cmp.{IsTotalOrder}
-use Rattle.std.specs.Ordering.{is_lt, match_ordering}
+use Rattle.std.specs.Ordering.{is_lt}
 use Rattle.std.proofs.lemmas.List.Sorted.{searchable_from_sorted}
 use Rattle.std.proofs.lemmas.Cmp.{alike_right}
 use Rattle.std.proofs.lemmas.List.Elements.{All-from_recursion}
@@ -74,30 +74,3 @@ module _ {T K : Type 0} (key : T → K) {cmp : K → K → Ordering} (o : IsTota
         let parts = parted (searchable_from_sorted o key xs k not_less_after) in
         record { within = within; before = parts.0; after = parts.1 };
   }
-
--- what holds of all items and of x holds of all once x is put
-pub all_put : {T : Type 0} (at : T → Ordering) (P : T → Type 0) (x : T) (xs : List T) → P x → AllByRecursion P xs → AllByRecursion P (put at x xs)
-all_put at P x [] one all = (one, tt)
-all_put at P x (y ∷ ys) one all = by_cases (at y) (all_put at P x ys one all.1)
-  where
-    by_cases : (o : Ordering) → AllByRecursion P (put at x ys) → AllByRecursion P (match_ordering o (y ∷ put at x ys) (x ∷ ys) (x ∷ y ∷ ys))
-    by_cases Less later = (all.0, later)
-    by_cases Equal later = (one, all.1)
-    by_cases Greater later = (one, all)
-
-all_weaker : {T : Type 0} (P Q : T → Type 0) (xs : List T) → ((y : T) → P y → Q y) → AllByRecursion P xs → AllByRecursion Q xs
-all_weaker P Q [] f all = tt
-all_weaker P Q (x ∷ xs) f all = (f x all.0, all_weaker P Q xs f all.1)
-
-module _ {T K : Type 0} (key : T → K) {cmp : K → K → Ordering} (o : IsTotalOrder cmp) where
-  -- a list that ascends does so once a thing is put at its key
-  pub ascends_put : (x : T) (xs : List T) → Ascends key cmp xs → Ascends key cmp (put (λ y. cmp (key y) (key x)) x xs)
-  ascends_put x [] up = (tt, tt)
-  ascends_put x (y ∷ ys) up = by_cases (cmp (key y) (key x)) refl (ascends_put x ys up.1)
-    where
-      by_cases : (r : Ordering) → cmp (key y) (key x) ≡ r → Ascends key cmp (put (λ z. cmp (key z) (key x)) x ys) → Ascends key cmp (match_ordering r (y ∷ put (λ z. cmp (key z) (key x)) x ys) (x ∷ ys) (x ∷ y ∷ ys))
-      by_cases Less is later = (all_put (λ z. cmp (key z) (key x)) (λ z. cmp (key y) (key z) ≡ Less) x ys is up.0, later)
-      by_cases Equal is later = (all_weaker _ _ ys (λ z less. sym (o.congr (key y) (key x) (key z) is) ∙ less) up.0, up.1)
-      by_cases Greater is later =
-          let below : cmp (key x) (key y) ≡ Less = rw (o.antisymm (key x) (key y), is) refl in
-          ((below, all_weaker _ _ ys (λ z less. o.trans (key x) (key y) (key z) below less) up.0), up)

@@ -1,11 +1,10 @@
 -- An IPv4 address has one text.
-use Rattle.std.proofs.Common.{◌≡◌, ℕ, ◌+◌, ◌*◌, ◌/◌, ◌%◌, ◌<◌, ◌^◌, List, [], ◌∷◌, ◌++◌, length, refl, sym, ap, ◌∙◌, arith}
+use Rattle.std.proofs.Common.{◌≡◌, ℕ, ◌+◌, ◌*◌, ◌/◌, ◌%◌, ◌<◌, ◌^◌, List, [], ◌∷◌, ◌++◌, length, refl, sym, ◌∙◌, arith}
 use Rattle.std.specs.Fmt.{decimal}
 use Rattle.std.specs.Int.Digits.{number_from_digits}
-use Rattle.cl_types.specs.declared.addr.Addr.TheVariants.{V4}
 use Rattle.cl_types.specs.declared.reading.Family.TheVariants.{Dotted}
-use Rattle.cl_types.specs.Reading.{IsParts, IsOctet, IsDotted, IsAddress}
-use Rattle.cl_types.specs.Written.{dotted, address_text}
+use Rattle.cl_types.specs.Reading.{IsParts, IsDotted}
+use Rattle.cl_types.specs.Written.{dotted}
 
 joined : (a b c d : ℕ) → List ℕ
 joined a b c d = decimal a ++ (46 ∷ (decimal b ++ (46 ∷ (decimal c ++ (46 ∷ decimal d)))))

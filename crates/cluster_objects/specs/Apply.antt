@@ -1,6 +1,6 @@
 -- What a change does to a cluster (this project's own rules: which node changes are too late, and that
 -- counting pods share no address).
-use Rattle.std.specs.Prelude.{◌≡◌, ℕ, List, Bool, true, false, not, ◌&&◌, Option, Some, None, Result, Ok, Err, if◌then◌else◌, find}
+use Rattle.std.specs.Prelude.{◌≡◌, ℕ, List, [], ◌∷◌, Bool, true, false, not, ◌&&◌, Option, Some, None, Result, Ok, Err, if◌then◌else◌, find}
 use Rattle.std.specs.declared.cmp.Ordering.{Ordering}
 use Rattle.std.specs.List.{list_any}
 use Rattle.std.specs.Ordering.{nat_cmp, is_eq}
@@ -67,12 +67,12 @@ fixed_with_pod c p =
     then record { cluster = record c { fixed = true }; applied = Unchanged }
     else record { cluster = record c { fixed = true; pods = put (at_pod p.key) p c.pods }; applied = Changed }
 
+abbrev pub unless_taken : Option PodData → ClusterData → PodData → Result Outcome ClusterRefusal
+unless_taken None c p = Ok (fixed_with_pod c p)
+unless_taken (Some other) c p = Err (AddressInUse other.key)
+
 abbrev pub put_pod : ClusterData → PodData → Result Outcome ClusterRefusal
-put_pod c p = refused_by (address_taker c p)
-  where
-    refused_by : Option PodData → Result Outcome ClusterRefusal
-    refused_by None = Ok (fixed_with_pod c p)
-    refused_by (Some other) = Err (AddressInUse other.key)
+put_pod c p = unless_taken (address_taker c p) c p
 
 -- ---- policies
 
@@ -95,6 +95,29 @@ apply_object c (object.Policy p) = put_policy c p
 
 abbrev pub apply : ClusterData → Change → Result Outcome ClusterRefusal
 apply c (Put o) = apply_object c o
+
+-- one change that makes a difference is enough
+abbrev pub one_changed : Applied → Applied → Applied
+one_changed Changed later = Changed
+one_changed Unchanged later = later
+
+abbrev pub joined : Applied → Result Outcome ClusterRefusal → Result Outcome ClusterRefusal
+joined first (Ok later) = Ok (record { cluster = later.cluster; applied = one_changed first later.applied })
+joined first (Err refusal) = Err refusal
+
+-- what changes after one come to, where it isn't refused
+abbrev pub and_then : Result Outcome ClusterRefusal → (ClusterData → Result Outcome ClusterRefusal) → Result Outcome ClusterRefusal
+and_then (Ok first) later = joined first.applied (later first.cluster)
+and_then (Err refusal) later = Err refusal
+
+-- the cluster after changes in their order, or why the first refused one is refused
+abbrev pub after : ClusterData → List Change → Result Outcome ClusterRefusal
+after c [] = Ok (record { cluster = c; applied = Unchanged })
+after c (change ∷ changes) = and_then (apply c change) (λ changed. after changed changes)
+
+-- to make one change is to make the list of it alone
+abbrev pub OneChangeIsAList : Type 0
+OneChangeIsAList = (c : ClusterData) (change : Change) → after c (change ∷ []) ≡ apply c change
 
 -- What a call answered is what the change does; a refusal leaves the cluster as it was, and so does want of
 -- memory.

@@ -1,25 +1,19 @@
 -- The verdict of the policies for a pod of a node (Kubernetes NetworkPolicy v1, and Antrea's tiers, with
 -- Baseline after the Kubernetes policies).
-use Rattle.std.specs.Prelude.{ℕ, List, [], ◌∷◌, Bool, true, false, not, ◌&&◌, ◌||◌, ◌==◌, nat_le, filter, Option, Some, None, if◌then◌else◌, find}
+use Rattle.std.specs.Prelude.{ℕ, List, Bool, true, false, not, ◌&&◌, ◌||◌, ◌==◌, nat_le, filter, Option, Some, None, find}
 use Rattle.std.specs.List.{list_any, flat_map}
 use Rattle.std.specs.Option.{option_map_or}
-use Rattle.std.specs.Ordering.{is_gt}
 use Rattle.cl_types.specs.declared.addr.Addr.{Addr}
 use Rattle.cl_types.specs.declared.keys.Dir.TheVariants.{Ingress, Egress}
 use Rattle.cl_types.specs.declared.keys.Dir.{Dir}
-use Rattle.cl_types.specs.declared.keys.PolicyKind.{PolicyKind}
-use Rattle.cl_types.specs.declared.keys.PolicyKind.TheVariants.{Cluster, Antrea, Kube}
+use Rattle.cl_types.specs.declared.keys.RuleKey.{RuleKey}
 use Rattle.cl_types.specs.declared.traffic.Action.{Action}
-use Rattle.cl_types.specs.declared.traffic.Action.TheVariants as action
-use Rattle.cl_types.specs.declared.traffic.Verdict.{Verdict}
-use Rattle.cl_types.specs.declared.traffic.Verdict.TheVariants as verdict
 use Rattle.cl_types.specs.declared.traffic.NamedPort.{NamedPort}
 use Rattle.cl_types.specs.declared.traffic.PortName.{PortName}
 use Rattle.cl_types.specs.declared.traffic.Question.{Question}
 use Rattle.cl_types.specs.Equality.{text_eq, addr_eq, dir_eq, proto_eq}
-use Rattle.cl_types.specs.Judgement.{Judgement, by_rule, by_isolation, by_default}
+use Rattle.cl_types.specs.Judgement.{Judgement}
 use Rattle.cl_types.specs.Prefix.{holds}
-use Rattle.cl_types.specs.RuleOrder.{rule_order}
 use Rattle.cl_types.specs.Traffic.{PortRange}
 use Rattle.label_select.specs.Group.{Group}
 use Rattle.cluster_objects.specs.declared.policy.Block.{Block}
@@ -29,6 +23,7 @@ use Rattle.cluster_objects.specs.declared.policy.Rule.{Rule}
 use Rattle.cluster_objects.specs.Objects.{PodData, PolicyData, isolates}
 use Rattle.cluster_objects.specs.Groups.{counts, has}
 use Rattle.cluster_objects.specs.State.{ClusterData}
+use Rattle.cluster_objects.specs.Steps.{Stage, in_stage, is_kube, allowed_by_default, verdict_of}
 
 -- ---- who is meant
 
@@ -102,36 +97,16 @@ abbrev pub rule_has : ClusterData → PolicyData → Rule → PodData → Questi
 rule_has c policy r p q =
     dir_eq r.key.dir q.dir && applies c policy p && peers_have c q.peer r.peers && services_have c r p q r.services
 
-abbrev pub is_kube : PolicyKind → Bool
-is_kube Cluster = false
-is_kube Antrea = false
-is_kube Kube = true
+abbrev pub rule_key : Rule → RuleKey
+rule_key r = r.key
 
--- the stages in which rules are looked at: native rules, Kubernetes rules, Baseline rules
-pub data Stage : Type 0 where
-  native : Stage
-  kubernetes : Stage
-  baseline : Stage
-
--- the tier of Baseline is 253
-abbrev pub in_stage : Stage → PolicyData → Rule → Bool
-in_stage native policy r = not (is_kube policy.key.kind) && not (r.key.tier == 253)
-in_stage kubernetes policy r = is_kube policy.key.kind
-in_stage baseline policy r = not (is_kube policy.key.kind) && (r.key.tier == 253)
+abbrev pub rule_action : Rule → Action
+rule_action r = r.action
 
 -- the rules of a stage that have the question of the pod
 abbrev pub rules_with : ClusterData → PodData → Question → Stage → List Rule
-rules_with c p q stage = flat_map (λ policy. filter (λ r. in_stage stage policy r && rule_has c policy r p q) policy.rules) c.policies
-
--- of two rules the one that is looked at first
-abbrev pub earlier : Rule → Option Rule → Rule
-earlier r None = r
-earlier r (Some s) = if is_gt (rule_order r.key s.key) then s else r
-
--- the first of some rules in the rule order
-abbrev pub first : List Rule → Option Rule
-first [] = None
-first (r ∷ rs) = Some (earlier r (first rs))
+rules_with c p q stage =
+    flat_map (λ policy. filter (λ r. in_stage stage policy.key.kind r.key && rule_has c policy r p q) policy.rules) c.policies
 
 -- ---- the verdict
 
@@ -139,37 +114,9 @@ first (r ∷ rs) = Some (earlier r (first rs))
 abbrev pub is_isolated : ClusterData → PodData → Dir → Bool
 is_isolated c p dir = list_any (λ policy. is_kube policy.key.kind && isolates policy dir && applies c policy p) c.policies
 
-abbrev pub judged : Verdict → Rule → Judgement
-judged v r = record { verdict = v; by = by_rule r.key }
-
-abbrev pub allowed_by_default : Judgement
-allowed_by_default = record { verdict = verdict.Allow; by = by_default }
-
--- what a rule decides, or else what is decided without it: Pass leaves the decision
-abbrev pub decided : Rule → Action → Judgement → Judgement
-decided r action.Allow other = judged verdict.Allow r
-decided r action.Drop other = judged verdict.Drop r
-decided r action.Reject other = judged verdict.Reject r
-decided r action.Pass other = other
-
--- the first rule, where there is one, decides
-abbrev pub decided_first : Option Rule → Judgement → Judgement
-decided_first None other = other
-decided_first (Some r) other = decided r r.action other
-
--- of an isolated pod: what a Kubernetes rule allows is allowed, and nothing else
-abbrev pub allowed_first : Option Rule → Judgement
-allowed_first None = record { verdict = verdict.Drop; by = by_isolation }
-allowed_first (Some r) = judged verdict.Allow r
-
--- First the native rules outside Baseline. Where none of them decides: the Kubernetes rules of an
--- isolated pod, and of any other pod the Baseline rules, and at last everything is allowed.
+-- the three steps, over the rules that have the question
 abbrev pub side_of : ClusterData → PodData → Question → Judgement
-side_of c p q =
-    decided_first (first (rules_with c p q native))
-    (if is_isolated c p q.dir
-    then allowed_first (first (rules_with c p q kubernetes))
-    else decided_first (first (rules_with c p q baseline)) allowed_by_default)
+side_of c p q = verdict_of rule_key rule_action (rules_with c p q) (is_isolated c p q.dir)
 
 -- the counting pod on the node that has the address
 abbrev pub pod_on : ClusterData → List ℕ → Addr → Option PodData

@@ -4,3 +4,4 @@ pub mod Groups
 pub mod Kept
 pub mod Objects
 pub mod State
+pub mod Steps

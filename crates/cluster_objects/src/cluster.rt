@@ -37,6 +37,26 @@ impl Model for Cluster {
     ghost invariant = { λ c. IsCluster (record { nodes = c.nodes; fixed = c.fixed; namespaces = c.namespaces; pods = c.pods; tiers = c.tiers; policies = c.policies; egresses = c.egresses }) };
 }
 
+impl Copies for Cluster {
+    fn copy(&self) -> Result<Cluster, NoMemory> {
+        let nodes = self.nodes.copy()?;
+        let namespaces = self.namespaces.copy()?;
+        let pods = self.pods.copy()?;
+        let tiers = self.tiers.copy()?;
+        let policies = self.policies.copy()?;
+        let egresses = self.egresses.copy()?;
+        Ok(Cluster {
+            nodes,
+            fixed: self.fixed,
+            namespaces,
+            pods,
+            tiers,
+            policies,
+            egresses,
+        })
+    }
+}
+
 /// The key of the label that every namespace has, with its name (Kubernetes).
 pub const NAME_LABEL: &[u8] = b"kubernetes.io/metadata.name";
 

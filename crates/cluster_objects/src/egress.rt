@@ -1,4 +1,6 @@
-use cl_types::{Addr, Keyed, Text};
+ghost use Rattle.std.specs.Prelude.{◌≡◌, IfOk};
+
+use cl_types::{Addr, Copies, Keyed, NoMemory, Text};
 use label_select::GroupKey;
 
 /// An Egress of Antrea: traffic of the group's pods out of the cluster leaves with `address` by `node`.
@@ -17,5 +19,16 @@ impl Keyed for EgressObj {
 
     fn key(&self) -> &Text {
         &self.name
+    }
+}
+
+impl Copies for EgressObj {
+    fn copy(&self) -> Result<EgressObj, NoMemory> {
+        Ok(EgressObj {
+            name: self.name.copy()?,
+            address: self.address,
+            node: self.node.copy()?,
+            applied: self.applied.copy()?,
+        })
     }
 }

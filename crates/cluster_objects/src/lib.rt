@@ -5,6 +5,7 @@
 mod change;
 mod cluster;
 mod egress;
+mod laws;
 mod node;
 mod pod;
 mod policy;
@@ -12,6 +13,7 @@ mod policy;
 pub use change::{Applied, Change, ClusterRefusal, Object};
 pub use cluster::{Cluster, NAME_LABEL};
 pub use egress::EgressObj;
+pub use laws::one_change_is_a_list;
 pub use node::{Namespace, NodeInfo};
 pub use pod::Pod;
 pub use policy::{Block, Peer, Policy, Rule, Tier};

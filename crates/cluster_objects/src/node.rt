@@ -65,3 +65,12 @@ impl Keyed for Namespace {
         &self.name
     }
 }
+
+impl Copies for Namespace {
+    fn copy(&self) -> Result<Namespace, NoMemory> {
+        Ok(Namespace {
+            name: self.name.copy()?,
+            labels: self.labels.copy()?,
+        })
+    }
+}

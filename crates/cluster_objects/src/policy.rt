@@ -24,6 +24,15 @@ impl Keyed for Tier {
     }
 }
 
+impl Copies for Tier {
+    fn copy(&self) -> Result<Tier, NoMemory> {
+        Ok(Tier {
+            name: self.name.copy()?,
+            priority: self.priority,
+        })
+    }
+}
+
 /// A block of peers: the addresses in `cidr` that are in no except.
 #[derive(Debug, Drop)]
 pub struct Block {

@@ -12,7 +12,7 @@ use Rattle.std.proofs.lemmas.Cmp.{tied_itself}
 use Rattle.std.proofs.lemmas.List.Kept.{IsStrictlySortedBy-dedup}
 use Rattle.std.proofs.lemmas.List.Sorted.{list_any-IsPermutation}
 use Rattle.cl_types.specs.Ascending.{Ascends, put}
-use Rattle.cl_types.proofs.AscendingLists.{ascends_put, all_put}
+use Rattle.cl_types.specs.AscendingLaws.{ascends_put, all_put}
 use Rattle.label_select.specs.Canonical.{sorted_set}
 
 or_swap : (a b c : Bool) → (a || (b || c)) ≡ (b || (a || c))

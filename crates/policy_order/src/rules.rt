@@ -1,6 +1,7 @@
 ghost use Rattle.std.specs.Prelude.{◌≡◌, ◌++◌, ◌&&◌, List, Some, filter, option_copied};
 ghost use Rattle.cluster_objects.specs.declared.policy.Rule.{Rule};
-ghost use Rattle.cluster_objects.specs.Evaluation.{is_kube, applies, rule_has, earlier, first, in_stage, rules_with, is_isolated};
+ghost use Rattle.cluster_objects.specs.Evaluation.{applies, rule_has, rule_key, rules_with, is_isolated};
+ghost use Rattle.cluster_objects.specs.Steps.{is_kube, in_stage, earlier, first};
 ghost use Rattle.cluster_objects.specs.Objects.{isolates};
 ghost use Rattle.policy_order.specs.Stages.{stage_of};
 
@@ -30,7 +31,7 @@ fn is_kube(kind: PolicyKind) -> bool
 }
 
 fn in_stage(stage: Stage, policy: &Policy, rule: &Rule) -> bool
-    ensures { result ≡ in_stage (stage_of stage) policy.now rule.now }
+    ensures { result ≡ in_stage (stage_of stage) policy.now.key.kind rule.now.key }
 {
     match stage {
         Stage::Native => !is_kube(policy.key.kind) && rule.key.tier != BASELINE_TIER,
@@ -60,7 +61,7 @@ fn rule_has(c: &Cluster, policy: &Policy, rule: &Rule, pod: &Pod, q: &Question) 
 
 // Of two rules the one that is looked at first.
 fn earlier<'c>(rule: &'c Rule, other: Option<&'c Rule>) -> &'c Rule
-    ensures { result.now ≡ earlier rule.now (option_copied other.entry) }
+    ensures { result.now ≡ earlier rule_key rule.now (option_copied other.entry) }
 {
     match other {
         Some(other) if rule_cmp(&rule.key, &other.key).is_gt() => other,
@@ -77,8 +78,8 @@ fn first_of_policy<'c>(
     stage: Stage,
     after: Option<&'c Rule>,
 ) -> Option<&'c Rule>
-    ensures { (later : List Rule) → option_copied after.entry ≡ first later
-        → option_copied result ≡ first (filter (λ r. in_stage (stage_of stage) policy.now r && rule_has c.now policy.now r pod.now q.now) policy.now.rules ++ later) }
+    ensures { (later : List Rule) → option_copied after.entry ≡ first rule_key later
+        → option_copied result ≡ first rule_key (filter (λ r. in_stage (stage_of stage) policy.now.key.kind r.key && rule_has c.now policy.now r pod.now q.now) policy.now.rules ++ later) }
 {
     let rules = policy.rules.as_slice();
     let mut found = after;
@@ -99,7 +100,7 @@ fn is_wanted(
     q: &Question,
     stage: Stage,
 ) -> bool
-    ensures { result ≡ (in_stage (stage_of stage) policy.now rule.now && rule_has c.now policy.now rule.now pod.now q.now) }
+    ensures { result ≡ (in_stage (stage_of stage) policy.now.key.kind rule.now.key && rule_has c.now policy.now rule.now pod.now q.now) }
 {
     in_stage(stage, policy, rule) && rule_has(c, policy, rule, pod, q)
 }
@@ -111,7 +112,7 @@ pub(crate) fn first_rule<'c>(
     q: &Question,
     stage: Stage,
 ) -> Option<&'c Rule>
-    ensures { option_copied result ≡ first (rules_with c.now pod.now q.now (stage_of stage)) }
+    ensures { option_copied result ≡ first rule_key (rules_with c.now pod.now q.now (stage_of stage)) }
 {
     let policies = c.policies().as_slice();
     let mut found = None;

@@ -1,13 +1,14 @@
 ghost use Rattle.std.specs.Prelude.{◌≡◌, ◌&&◌, option_copied, find};
 ghost use Rattle.cl_types.specs.Judgement.{judgement_of};
-ghost use Rattle.cluster_objects.specs.Evaluation.{judged, allowed_by_default, decided, decided_first, allowed_first, side_of, pod_on, side};
+ghost use Rattle.cluster_objects.specs.Evaluation.{rule_key, rule_action, side_of, pod_on, side};
+ghost use Rattle.cluster_objects.specs.Steps.{judged, allowed_by_default, decided, decided_first, allowed_first};
 
 use crate::rules::{Stage, first_rule, is_isolated};
 use cl_types::{Action, Addr, Cause, Judged, Question, Text, Verdict};
 use cluster_objects::{Cluster, Pod, Rule};
 
 fn judged(verdict: Verdict, rule: &Rule) -> Judged<'_>
-    ensures { judgement_of result ≡ judged verdict rule.now }
+    ensures { judgement_of result ≡ judged verdict rule.now.key }
 {
     Judged {
         verdict,
@@ -26,7 +27,7 @@ fn allowed_by_default<'c>() -> Judged<'c>
 
 // What the rule decides, or else what is decided without it.
 fn decided<'c>(rule: &'c Rule, other: Judged<'c>) -> Judged<'c>
-    ensures { judgement_of result ≡ decided rule.now rule.now.action (judgement_of other.entry) }
+    ensures { judgement_of result ≡ decided rule.now.key rule.now.action (judgement_of other.entry) }
 {
     match rule.action {
         Action::Allow => judged(Verdict::Allow, rule),
@@ -37,7 +38,7 @@ fn decided<'c>(rule: &'c Rule, other: Judged<'c>) -> Judged<'c>
 }
 
 fn decided_first<'c>(rule: Option<&'c Rule>, other: Judged<'c>) -> Judged<'c>
-    ensures { judgement_of result ≡ decided_first (option_copied rule.entry) (judgement_of other.entry) }
+    ensures { judgement_of result ≡ decided_first rule_key rule_action (option_copied rule.entry) (judgement_of other.entry) }
 {
     match rule {
         Some(rule) => decided(rule, other),
@@ -46,7 +47,7 @@ fn decided_first<'c>(rule: Option<&'c Rule>, other: Judged<'c>) -> Judged<'c>
 }
 
 fn allowed_first(rule: Option<&Rule>) -> Judged<'_>
-    ensures { judgement_of result ≡ allowed_first (option_copied rule.entry) }
+    ensures { judgement_of result ≡ allowed_first rule_key (option_copied rule.entry) }
 {
     match rule {
         Some(rule) => judged(Verdict::Allow, rule),

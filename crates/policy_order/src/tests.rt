@@ -4,10 +4,13 @@ ghost use Rattle.cluster_objects.specs.Objects.{IsBaseline};
 
 use crate::judge;
 use cl_types::{
-    Action, Addr, Copies, Dir, List, PodKey, PolicyKey, PolicyKind, Prefix, Proto, Question,
-    RuleKey, Same, Service, Text, write_judged,
+    Action, Addr, AgentOrder, Copies, Dir, List, NamedPort, PodKey, PolicyKey, PolicyKind,
+    PortName, Prefix, Proto, Question, RuleKey, Same, Service, Text, write_judged,
 };
-use cluster_objects::{Block, Change, Cluster, NodeInfo, Object, Peer, Pod, Policy, Rule};
+use cluster_objects::{
+    Block, Change, Cluster, ClusterRefusal, EgressObj, Namespace, NodeInfo, Object, Peer, Pod,
+    Policy, Rule,
+};
 use label_select::{
     GroupKey, Labels, Need, Op, Scope, Selector, are_label_values, canon, is_label_key,
     is_namespace_name,
@@ -279,11 +282,13 @@ fn policy(rt: &impl Abort, alloc: Global, given: Given) -> Policy {
     }
 }
 
+// A change is made as its copy.
 fn put(rt: &impl Abort, c: &mut Cluster, object: Object) {
-    assert!(rt; c.try_apply(Change::Put(object)).is_ok());
+    let change = Change::Put(object).copy().expect(rt, "memory");
+    assert!(rt; c.try_apply(change).is_ok());
 }
 
-// The verdict on tcp from `cli` to `web` at the port, as it is printed.
+// The verdict on tcp from `cli` to `web` at the port, as it is printed. It is asked of a copy of the cluster.
 fn verdict(rt: &impl Abort, alloc: Global, given: &[Given], port: u16) -> Text {
     let mut c = Cluster::new(alloc).expect(rt, "memory");
     put(rt, &mut c, Object::Pod(pod(rt, alloc, b"web", WEB)));
@@ -299,7 +304,8 @@ fn verdict(rt: &impl Abort, alloc: Global, given: &[Given], port: u16) -> Text {
         port,
     };
     let mut out = Text::new(alloc);
-    let judged = judge(&c, &text(rt, alloc, b"n1"), &question);
+    let copied = c.copy().expect(rt, "memory");
+    let judged = judge(&copied, &text(rt, alloc, b"n1"), &question);
     write_judged(&mut out, &judged).expect(rt, "memory");
     out
 }
@@ -435,4 +441,58 @@ fn copies_of_objects(rt: HostRuntime) {
     assert!(rt; is_copied(&rt, &pod(&rt, rt.alloc(), b"web", WEB)));
     assert!(rt; is_copied(&rt, &policy(&rt, rt.alloc(), Given::WebIn)));
     assert!(rt; is_copied(&rt, &policy(&rt, rt.alloc(), RULE_WITH_BLOCK)));
+}
+
+#[test]
+fn copies_of_named_ports_and_orders(rt: HostRuntime) {
+    let port = NamedPort {
+        name: text(&rt, rt.alloc(), b"http"),
+        proto: Proto::Tcp,
+        port: 8080,
+    };
+    assert!(rt; is_copied(&rt, &one(&rt, rt.alloc(), port)));
+    let name = PortName {
+        name: text(&rt, rt.alloc(), b"http"),
+        proto: Proto::Tcp,
+    };
+    assert!(rt; is_copied(&rt, &one(&rt, rt.alloc(), name)));
+    let words = one(&rt, rt.alloc(), text(&rt, rt.alloc(), b"get"));
+    match (AgentOrder::Antctl(words)).copy().expect(&rt, "memory") {
+        AgentOrder::Antctl(copied) => assert_eq!(rt;
+            copied.as_slice()[0].as_slice(),
+            b"get".as_slice()
+        ),
+        _ => assert!(rt; false),
+    }
+}
+
+#[test]
+fn copies_of_egresses_and_namespaces(rt: HostRuntime) {
+    let egress = EgressObj {
+        name: text(&rt, rt.alloc(), b"out"),
+        address: Addr::V4(0x0a0a_0a0a),
+        node: text(&rt, rt.alloc(), b"n1"),
+        applied: all_pods(&rt, rt.alloc()),
+    };
+    let copied = egress.copy().expect(&rt, "memory");
+    assert!(rt; copied.name == egress.name && copied.node == egress.node);
+    assert!(rt; copied.address == egress.address && copied.applied.same(&egress.applied));
+    let namespace = Namespace {
+        name: text(&rt, rt.alloc(), b"default"),
+        labels: Labels::new(rt.alloc()),
+    };
+    let copied = namespace.copy().expect(&rt, "memory");
+    assert!(rt; copied.name == namespace.name && copied.labels.same(&namespace.labels));
+}
+
+#[test]
+fn copy_of_a_refusal(rt: HostRuntime) {
+    let mut c = Cluster::new(rt.alloc()).expect(&rt, "memory");
+    put(&rt, &mut c, Object::Pod(pod(&rt, rt.alloc(), b"web", WEB)));
+    let other = Object::Pod(pod(&rt, rt.alloc(), b"cli", WEB));
+    let refusal = c.try_apply(Change::Put(other)).expect_err(&rt, "a refusal");
+    match refusal.copy().expect(&rt, "memory") {
+        ClusterRefusal::AddressInUse(key) => assert_eq!(rt; key.name.as_slice(), b"web".as_slice()),
+        _ => assert!(rt; false),
+    }
 }

@@ -1,16 +1,28 @@
 //! What a line of the input is.
-ghost use Rattle.std.specs.Prelude.{◌≡◌};
+ghost use Rattle.std.specs.Prelude.{◌≡◌, IfOk};
 ghost use Rattle.policy_reader.specs.declared.item.ReadRefusal.TheVariants.{NoMemory as no_memory};
 
-use cl_types::{NoMemory, Question, Text};
+use cl_types::{Copies, NoMemory, Question, Text};
 use cluster_objects::Change;
 use std::alloc::{AllocError, AllocFailed};
+use thiserror::Error;
 
 /// What a control line orders.
 #[derive(Debug, Drop)]
 pub enum Control {
     /// A question about the policies' own verdict, for the pods of a node.
     Ask { node: Text, question: Question },
+}
+
+impl Copies for Control {
+    fn copy(&self) -> Result<Control, NoMemory> {
+        match self {
+            Control::Ask { node, question } => Ok(Control::Ask {
+                node: node.copy()?,
+                question: *question,
+            }),
+        }
+    }
 }
 
 /// What a line says.
@@ -21,13 +33,26 @@ pub enum LineItem {
     Blank,
 }
 
+impl Copies for LineItem {
+    fn copy(&self) -> Result<LineItem, NoMemory> {
+        match self {
+            LineItem::Object(change) => Ok(LineItem::Object(change.copy()?)),
+            LineItem::Control(control) => Ok(LineItem::Control(control.copy()?)),
+            LineItem::Blank => Ok(LineItem::Blank),
+        }
+    }
+}
+
 /// Why a line can't be read.
-#[derive(Clone, Copy, Debug, PartialEq, Eq)]
+#[derive(Clone, Copy, Debug, PartialEq, Eq, Error)]
 pub enum ReadRefusal {
     /// The bytes are no JSON.
+    #[error("the line isn't JSON")]
     NotJson,
     /// The value isn't of the kinds and shapes that are read so far.
+    #[error("the line isn't of a kind and shape that is read")]
     NotBuilt,
+    #[error("out of memory")]
     NoMemory,
 }
 

@@ -11,10 +11,10 @@ use Rattle.cl_io.specs.Lines.{whole_lines, first_bytes}
 use Rattle.cl_io.specs.Reading.{Reading, Took, Stands, IsFinished, IsUnopened as Unopened, IsUnreadable as Unreadable, IsOverfull as Overfull}
 use Rattle.cl_io.specs.Telling.{Adds, AddsSome}
 use Rattle.std.proofs.lemmas.List.Elements.{All-head, All-tail}
-use Rattle.cl_io.proofs.Feeds.{byte_count-append}
-use Rattle.cl_io.proofs.Nexting.{Kept, Kept-none}
-use Rattle.cl_io.proofs.Putting.{Adds-none, Adds-more}
-use Rattle.cl_io.proofs.Standing.{AddsSome-weaker}
+use Rattle.cl_io.specs.LinesLaws.{byte_count-append}
+use Rattle.cl_io.specs.Keeping.{Kept}
+use Rattle.cl_io.specs.KeepingLaws.{Kept-none}
+use Rattle.cl_io.specs.TellingLaws.{Adds-none, Adds-more, AddsSome-weaker}
 use Rattle.suite_run.specs.declared.status.Status.{Status}
 use Rattle.suite_run.specs.declared.status.Status.TheVariants.{BadWords, OpenFault, ReadFault, WriteFault, NoMemory, InputTooLong}
 use Rattle.suite_run.specs.declared.world.World.{World}

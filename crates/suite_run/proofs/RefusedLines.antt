@@ -4,7 +4,7 @@ use Rattle.cluster_objects.specs.declared.change.Applied.{Applied}
 use Rattle.cluster_objects.specs.declared.change.Applied.TheVariants.{Changed, Unchanged}
 use Rattle.cluster_objects.specs.declared.change.ClusterRefusal.{ClusterRefusal}
 use Rattle.cluster_objects.specs.declared.change.ClusterRefusal.TheVariants as cluster
-use Rattle.cluster_objects.specs.Apply.{apply, Outcome as Applying}
+use Rattle.cluster_objects.specs.Apply.{after, Outcome as Applying}
 use Rattle.policy_reader.specs.declared.item.Control.TheVariants.{Ask}
 use Rattle.suite_run.specs.declared.said.Said.{Said}
 use Rattle.suite_run.specs.declared.said.Said.TheVariants.{Object, Control, Blank, Refused}
@@ -27,7 +27,7 @@ refused-changes node w (Err cluster.NoMemory) h = refl
 
 refused-step : (w : World) (s : Said) → IsTrue (is_refusal (step w s).outcome) → (step w s).world ≡ w
 unfolding step
-refused-step w (Object change) h = refused-changes (is_node change) w (apply w.cluster change) h
+refused-step w (Object change) h = refused-changes (is_node change) w (after w.cluster (change ∷ [])) h
 refused-step w (Control (Ask node question)) h = refl
 refused-step w Blank h = refl
 refused-step w (Refused r) h = refl

@@ -1,10 +1,10 @@
 -- A line makes at most one revision.
-use Rattle.std.proofs.Common.{◌+◌, ◌≤◌, Bool, true, false, Result, Ok, Err, arith}
+use Rattle.std.proofs.Common.{◌+◌, ◌≤◌, Bool, true, false, Result, Ok, Err, [], ◌∷◌, arith}
 use Rattle.cluster_objects.specs.declared.change.Applied.{Applied}
 use Rattle.cluster_objects.specs.declared.change.Applied.TheVariants.{Changed, Unchanged}
 use Rattle.cluster_objects.specs.declared.change.ClusterRefusal.{ClusterRefusal}
 use Rattle.cluster_objects.specs.declared.change.ClusterRefusal.TheVariants as cluster
-use Rattle.cluster_objects.specs.Apply.{apply, Outcome}
+use Rattle.cluster_objects.specs.Apply.{after, Outcome}
 use Rattle.policy_reader.specs.declared.item.Control.TheVariants.{Ask}
 use Rattle.suite_run.specs.declared.said.Said.{Said}
 use Rattle.suite_run.specs.declared.said.Said.TheVariants.{Object, Control, Blank, Refused}
@@ -24,7 +24,7 @@ revision-changes node w (Err cluster.NoMemory) = omega arith
 
 pub revision-step : (w : World) (s : Said) → (step w s).world.revision ≤ w.revision + 1
 unfolding step
-revision-step w (Object change) = revision-changes (is_node change) w (apply w.cluster change)
+revision-step w (Object change) = revision-changes (is_node change) w (after w.cluster (change ∷ []))
 revision-step w (Control (Ask node question)) = omega arith
 revision-step w Blank = omega arith
 revision-step w (Refused r) = omega arith

@@ -9,8 +9,9 @@ use Rattle.cl_io.specs.Lines.{whole_lines}
 use Rattle.cl_io.specs.Reading.{Reading, Told, reading_of, Took, Stands}
 use Rattle.cl_io.specs.Sink.{Lowers, Takes}
 use Rattle.cl_io.specs.Telling.{Adds, AddsSome, StaysTold}
-use Rattle.cl_io.proofs.Nexting.{Outside, Kept, Kept-none}
-use Rattle.cl_io.proofs.Putting.{Adds-none, Adds-more, Lowers-none, Lowers-more}
+use Rattle.cl_io.specs.Keeping.{Outside, Kept}
+use Rattle.cl_io.specs.KeepingLaws.{Kept-none}
+use Rattle.cl_io.specs.TellingLaws.{Adds-none, Adds-more, Lowers-none, Lowers-more}
 use Rattle.suite_run.specs.declared.blocks.Block.{Block}
 use Rattle.suite_run.specs.declared.world.World.{World}
 use Rattle.suite_run.specs.Blocks.{block_text, world_after, blocks, has_refusal, out_of}

@@ -5,7 +5,7 @@ use Rattle.std.proofs.lemmas.List.{take-append-le}
 use Rattle.cl_io.specs.Causes.{Rose}
 use Rattle.cl_io.specs.Sink.{Takes}
 use Rattle.cl_io.specs.Telling.{Adds}
-use Rattle.cl_io.proofs.Putting.{Adds-more}
+use Rattle.cl_io.specs.TellingLaws.{Adds-more}
 use Rattle.suite_run.specs.Words.{Says}
 use Rattle.suite_run.proofs.Ending.{rose_more}
 use Rattle.suite_run.proofs.Running.{all_taken, of_err}

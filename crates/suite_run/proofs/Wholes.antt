@@ -7,7 +7,7 @@ use Rattle.std.proofs.lemmas.List.Elements.{All-head, All-tail}
 use Rattle.cl_io.specs.Files.{Entry, IsOfContent, IsEnded, names_of, byte_count}
 use Rattle.cl_io.specs.Lines.{lines_of, led_by, whole_lines}
 use Rattle.cl_io.specs.Reading.{Reading, IsBetween, IsAmid, Took}
-use Rattle.cl_io.proofs.Feeds.{whole_lines-append, names_of-append, byte_count-append}
+use Rattle.cl_io.specs.LinesLaws.{whole_lines-append, names_of-append, byte_count-append}
 use Rattle.suite_run.specs.declared.world.World.{World}
 use Rattle.suite_run.specs.Blocks.{block_text, world_after, blocks, has_refusal}
 use Rattle.suite_run.specs.Run.{whole_files}

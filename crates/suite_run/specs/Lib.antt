@@ -1,5 +1,6 @@
 pub mod Blocks
 pub mod Exit
+pub mod History
 pub mod Laws
 pub mod Run
 pub mod Shown

@@ -1,5 +1,5 @@
 -- What is known between two lines, what a line changes in it, and what is told of the line (this project's own).
-use Rattle.std.specs.Prelude.{ℕ, ◌+◌, List, length, Bool, true, false, ◌&&◌, nat_lt, if◌then◌else◌, Result, Ok, Err}
+use Rattle.std.specs.Prelude.{ℕ, ◌+◌, List, [], ◌∷◌, length, Bool, true, false, ◌&&◌, nat_lt, if◌then◌else◌, Result, Ok, Err}
 use Rattle.std.specs.List.{list_any}
 use Rattle.cl_types.specs.Equality.{text_eq}
 use Rattle.cl_types.specs.declared.traffic.Question.{Question}
@@ -11,7 +11,7 @@ use Rattle.cluster_objects.specs.declared.change.Change.TheVariants.{Put}
 use Rattle.cluster_objects.specs.declared.change.ClusterRefusal.{ClusterRefusal}
 use Rattle.cluster_objects.specs.declared.change.ClusterRefusal.TheVariants as cluster
 use Rattle.cluster_objects.specs.declared.change.Object.TheVariants as object
-use Rattle.cluster_objects.specs.Apply.{apply, Outcome as Applying}
+use Rattle.cluster_objects.specs.Apply.{after, Outcome as Applying}
 use Rattle.cluster_objects.specs.Evaluation.{side}
 use Rattle.cluster_objects.specs.Objects.{NodeData}
 use Rattle.cluster_objects.specs.State.{ClusterData, no_objects}
@@ -112,7 +112,7 @@ abbrev pub answer : World → List ℕ → Question → Outcome
 answer w node question = if is_listed w.cluster node then judged w.revision (side w.cluster node question) else refused NoNode
 
 unfoldable pub step : World → Said → Step
-step w (Object change) = changes (is_node change) w (apply w.cluster change)
+step w (Object change) = changes (is_node change) w (after w.cluster (change ∷ []))
 step w (Control (Ask node question)) = tells w (answer w node question)
 step w Blank = tells w silent
 step w (Refused r) = tells w (refused r)

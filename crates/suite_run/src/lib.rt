@@ -12,7 +12,7 @@ mod turn;
 mod words;
 mod world;
 
-pub use laws::{no_line_is_too_long, refused_lines_change_nothing};
+pub use laws::{no_line_is_too_long, refused_lines_change_nothing, revisions_have_their_clusters};
 pub use site::Site;
 pub use status::Status;
 pub use top::calm;

@@ -2,7 +2,7 @@
 ghost use Rattle.std.specs.Prelude.{◌≡◌, ℕ, ◌+◌, ◌^◌, ◌<◌, ◌≤◌, List, [], ◌∷◌, length, IfOk};
 ghost use Rattle.std.specs.List.{list_any};
 ghost use Rattle.cl_types.specs.Equality.{text_eq};
-ghost use Rattle.cluster_objects.specs.Apply.{apply};
+ghost use Rattle.cluster_objects.specs.Apply.{after};
 ghost use Rattle.cluster_objects.specs.Objects.{NodeData};
 ghost use Rattle.suite_run.specs.Shown.{outcome_of};
 ghost use Rattle.suite_run.specs.World.{first_world, is_node, is_listed, answer, changes, differs};
@@ -60,9 +60,10 @@ impl World {
     /// Makes a change.
     pub(crate) fn change(&mut self, change: Change) -> Result<Answer<'static>, NoMemory>
         requires { self.old.revision + 1 < 2 ^ 64 }
-        ensures { IfOk result (λ told. changes (is_node change) self.old (apply self.old.cluster change)
+        ensures { IfOk result (λ told. changes (is_node change) self.old (after self.old.cluster (change ∷ []))
             ≡ record { world = self.new; outcome = outcome_of told }) }
     {
+        cluster_objects::one_change_is_a_list();
         let is_node = is_node(&change);
         match self.cluster.try_apply(change) {
             Ok(Applied::Unchanged) => Ok(Answer::Unchanged),

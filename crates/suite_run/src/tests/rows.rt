@@ -10,7 +10,7 @@ const N3: &[u8] =
 const N3_TOO_SHORT: &[u8] =
     b"{\"apiVersion\":\"v1\",\"kind\":\"Node\",\"metadata\":{\"name\":\"n3\"},\"spec\":{\"podCIDR\":\"10.0.0.0/7\"}}\n";
 
-const WEB: &[u8] =
+pub(crate) const WEB: &[u8] =
     b"{\"apiVersion\":\"v1\",\"kind\":\"Pod\",\"metadata\":{\"namespace\":\"default\",\"name\":\"web\",\"labels\":{\"app\":\"web\"}},\"spec\":{\"nodeName\":\"n1\"},\"status\":{\"phase\":\"Running\",\"podIP\":\"10.10.1.5\"}}\n";
 
 const CLI: &[u8] =
@@ -28,7 +28,7 @@ const JOB_ODD_LABEL: &[u8] =
 const POLICY: &[u8] =
     b"{\"apiVersion\":\"networking.k8s.io/v1\",\"kind\":\"NetworkPolicy\",\"metadata\":{\"namespace\":\"default\",\"name\":\"web-in\"},\"spec\":{\"podSelector\":{\"matchLabels\":{\"app\":\"web\"}},\"policyTypes\":[\"Ingress\"],\"ingress\":[{\"from\":[{\"podSelector\":{\"matchLabels\":{\"app\":\"cli\"}}}],\"ports\":[{\"protocol\":\"TCP\",\"port\":80}]}]}}\n";
 
-const ASK_80: &[u8] =
+pub(crate) const ASK_80: &[u8] =
     b"{\"type\":\"X-ASK\",\"view\":\"policies\",\"node\":\"n1\",\"direction\":\"ingress\",\"own\":\"10.10.1.5\",\"peer\":\"10.10.1.6\",\"protocol\":\"tcp\",\"port\":80}\n";
 
 const ASK_81: &[u8] =

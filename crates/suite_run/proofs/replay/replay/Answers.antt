@@ -3,7 +3,7 @@ use Rattle.cl_io.specs.declared.lines.Line.TheVariants.{End}
 use Rattle.cl_io.specs.Answers.{KeepsLimit}
 use Rattle.cl_io.specs.Reading.{told}
 use Rattle.cl_io.specs.Sink.{Takes}
-use Rattle.cl_io.proofs.Nexting.{Kept-more}
+use Rattle.cl_io.specs.KeepingLaws.{Kept-more}
 use Rattle.suite_run.specs.declared.status.Status.{Status}
 use Rattle.suite_run.specs.Run.{Ran}
 use Rattle.suite_run.specs.World.{byte_limit}

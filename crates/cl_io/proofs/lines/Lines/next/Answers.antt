@@ -1,6 +1,8 @@
 use Rattle.std.proofs.lemmas.Result.{err_from_is_err_and}
 use Rattle.cl_io.specs.Reading.{told}
-use Rattle.cl_io.proofs.Nexting.{outside_of, Kept-more, Going-more, gives_line, gives_end, leaves_finished, leaves_unopened, leaves_unreadable, leaves_overfull, unfailing_ok, unfailing_err}
+use Rattle.cl_io.specs.Keeping.{outside_of}
+use Rattle.cl_io.specs.KeepingLaws.{Kept-more}
+use Rattle.cl_io.proofs.Nexting.{Going-more, gives_line, gives_end, leaves_finished, leaves_unopened, leaves_unreadable, leaves_overfull, unfailing_ok, unfailing_err}
 use Rattle.cl_io.proofs.lines.Lines.next.Goals as goal
 
 pub returns-in_err-turn-clause-unopened : goal.returns-in_err-turn-clause-unopened

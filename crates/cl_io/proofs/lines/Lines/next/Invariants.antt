@@ -1,5 +1,6 @@
 use Rattle.cl_io.specs.Turns.{steps_left}
-use Rattle.cl_io.proofs.Nexting.{outside_of, Going}
+use Rattle.cl_io.specs.Keeping.{outside_of}
+use Rattle.cl_io.proofs.Nexting.{Going}
 use Rattle.cl_io.proofs.lines.Lines.next.Given as goal
 
 -- the front of a line was read since the call began
