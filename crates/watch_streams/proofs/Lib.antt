@@ -1,0 +1,16 @@
+pub mod AscendingEdits
+pub mod AscendingMaps
+pub mod Cells
+pub mod Differences
+pub mod FirstRules
+pub mod HeldGroups
+pub mod HeldMembers
+pub mod HeldPolicies
+pub mod HeldRules
+pub mod MemberOrder
+pub mod Members
+pub mod NamedOnce
+pub mod OneOfAll
+pub mod OneRevision
+pub mod Projections
+pub mod Streams

@@ -1,0 +1,20 @@
+//! What a controller tells the agents of nodes, and what agents hold of it.
+#![tactic(auto)]
+
+mod laws;
+mod message;
+mod net;
+mod port;
+mod queue;
+
+pub use laws::{
+    messages_lead_to_the_new_map, messages_name_once, one_revision_is_the_policies_verdict,
+    projections_are_maps, streams_lead_on,
+};
+pub use message::{Changes, Msg, Objects, StreamChange, StreamName, StreamObject};
+pub use net::{HeldMember, NetEgress, NetPeers, NetPolicy, NetRule};
+pub use port::Port;
+pub use queue::QueuePort;
+
+#[cfg(test)]
+mod tests;
