@@ -12,29 +12,29 @@ use Rattle.cl_io.specs.Reading.{Reading, Took, Stands, IsFinished, IsUnopened as
 use Rattle.cl_io.specs.Telling.{Adds, AddsSome}
 use Rattle.std.proofs.lemmas.List.Elements.{All-head, All-tail}
 use Rattle.cl_io.specs.LinesLaws.{byte_count-append}
-use Rattle.cl_io.specs.Keeping.{Kept}
+use Rattle.cl_io.specs.Keeping.{Outside, Kept}
 use Rattle.cl_io.specs.KeepingLaws.{Kept-none}
 use Rattle.cl_io.specs.TellingLaws.{Adds-none, Adds-more, AddsSome-weaker}
 use Rattle.suite_run.specs.declared.status.Status.{Status}
 use Rattle.suite_run.specs.declared.status.Status.TheVariants.{BadWords, OpenFault, ReadFault, WriteFault, NoMemory, InputTooLong}
 use Rattle.suite_run.specs.declared.world.World.{World}
 use Rattle.suite_run.specs.Blocks.{blocks, has_refusal, out_of, any_refused}
-use Rattle.suite_run.specs.Run.{FilesView, SinkView, AddsFront, IsFinal, IsAnswered, IsUnopened, IsUnreadable, IsOverfull, Ran, whole_files, final_status, fault_status}
+use Rattle.suite_run.specs.Run.{SinkView, AddsFront, IsFinal, IsAnswered, IsUnopened, IsUnreadable, IsOverfull, Ran, whole_files, final_status, fault_status}
 use Rattle.suite_run.specs.World.{byte_limit, first_world}
-use Rattle.suite_run.proofs.Running.{files_of, start, Telling, due, Faultless, IsTruthful, Running, telling, added, AddsSome-all, due_front, NextFront}
+use Rattle.suite_run.proofs.Running.{start, Telling, due, Faultless, IsTruthful, Running, telling, added, AddsSome-all, due_front, NextFront}
 use Rattle.suite_run.proofs.Wholes.{whole_files-of, whole_files-append, line_count}
 
 -- ---- what every end leaves
 
-pub record Leaving (names : List (List ℕ)) (f0 : FilesView) (o0 : SinkView) (f : FilesView) (o : SinkView) : Type 0 where
+pub record Leaving (names : List (List ℕ)) (f0 : Outside) (o0 : SinkView) (f : Outside) (o : SinkView) : Type 0 where
   pub reading : Reading
-  pub kept : Kept (start names) (files_of f0) reading (files_of f)
+  pub kept : Kept (start names) f0 reading f
   pub later : o0.faults ≤ o.faults
   pub faultless : Faultless names f0 o0 o.faults
   pub front : Telling names f0 → AddsFront o0.written (due names f0) o.written
 
 -- the blocks so far are the front of what is due
-pub run_front : (names : List (List ℕ)) (f0 : FilesView) (o0 : SinkView) (r : Reading) (f : FilesView) (o : SinkView) (w : World) (refused : Bool) (number : ℕ) → Running names f0 o0 r f o w refused number →
+pub run_front : (names : List (List ℕ)) (f0 : Outside) (o0 : SinkView) (r : Reading) (f : Outside) (o : SinkView) (w : World) (refused : Bool) (number : ℕ) → Running names f0 o0 r f o w refused number →
     IsTruthful f → Telling names f0 → AddsFront o0.written (due names f0) o.written
 run_front names f0 o0 r f o w refused number run truthful tells =
     let d = due_front names f0 r f run.done run.kept run.stands truthful tells in
@@ -43,13 +43,13 @@ run_front names f0 o0 r f o w refused number run truthful tells =
     (length text, subst P (sym (ap (take (length text)) d.split ∙ take-append_seam text d.rest)) run.written)
 
 -- nothing more was written
-pub leaving : (names : List (List ℕ)) (f0 : FilesView) (o0 : SinkView) (r : Reading) (f : FilesView) (o : SinkView) (w : World) (refused : Bool) (number : ℕ) → Running names f0 o0 r f o w refused number →
-    IsTruthful f → (r' : Reading) (f' : FilesView) → Kept (start names) (files_of f0) r' (files_of f') → Leaving names f0 o0 f' o
+pub leaving : (names : List (List ℕ)) (f0 : Outside) (o0 : SinkView) (r : Reading) (f : Outside) (o : SinkView) (w : World) (refused : Bool) (number : ℕ) → Running names f0 o0 r f o w refused number →
+    IsTruthful f → (r' : Reading) (f' : Outside) → Kept (start names) f0 r' f' → Leaving names f0 o0 f' o
 leaving names f0 o0 r f o w refused number run truthful r' f' kept =
     record { reading = r'; kept = kept; later = run.later; faultless = run.faultless; front = run_front names f0 o0 r f o w refused number run truthful }
 
 -- a part of the next block was written
-pub part_front : (names : List (List ℕ)) (f0 : FilesView) (o0 : SinkView) (r : Reading) (f : FilesView) (o : SinkView) (w : World) (refused : Bool) (number : ℕ) (run : Running names f0 o0 r f o w refused number)
+pub part_front : (names : List (List ℕ)) (f0 : Outside) (o0 : SinkView) (r : Reading) (f : Outside) (o : SinkView) (w : World) (refused : Bool) (number : ℕ) (run : Running names f0 o0 r f o w refused number)
     (text : List ℕ) (count : ℕ) (new : Option (List ℕ)) → count ≤ length text → Adds o.written (take count text) new → NextFront names f0 run.done text → AddsFront o0.written (due names f0) new
 part_front names f0 o0 r f o w refused number run text count new within written d =
     let done = blocks 1 first_world run.done in
@@ -60,10 +60,10 @@ part_front names f0 o0 r f o w refused number run text count new within written 
 
 -- ---- a run that stops before the end
 
-abbrev pub Complete : List (List ℕ) → FilesView → SinkView → Status → FilesView → SinkView → Type 0
+abbrev pub Complete : List (List ℕ) → Outside → SinkView → Status → Outside → SinkView → Type 0
 Complete names f0 o0 status f o = (Rose f0.faults f.faults → ⊥) → (Rose o0.faults o.faults → ⊥) → IsSome f.told.taken → byte_count (whole_files f0.content names) ≤ byte_limit → IsAnswered status
 
-pub stopped : (names : List (List ℕ)) (f0 : FilesView) (o0 : SinkView) (status : Status) (f : FilesView) (o : SinkView) → (IsFinal status → ⊥) → (status ≡ BadWords → ⊥) → Leaving names f0 o0 f o →
+pub stopped : (names : List (List ℕ)) (f0 : Outside) (o0 : SinkView) (status : Status) (f : Outside) (o : SinkView) → (IsFinal status → ⊥) → (status ≡ BadWords → ⊥) → Leaving names f0 o0 f o →
     (status ≡ OpenFault → AddsSome f0.told.taken (IsUnopened names f0.told.tried f.told.tried o0.written o.written) f.told.taken) →
     (status ≡ ReadFault → AddsSome f0.told.taken (IsUnreadable names f0.told.tried f.told.tried o0.written o.written) f.told.taken) →
     (status ≡ InputTooLong → AddsSome f0.told.taken (IsOverfull names o0.written o.written) f.told.taken) →
@@ -96,16 +96,16 @@ stopped names f0 o0 status f o unfinished words leaving unopened unreadable over
       there = leaving.kept.there;
     }
 
-pub no_memory : (names : List (List ℕ)) (f0 : FilesView) (o0 : SinkView) (f : FilesView) (o : SinkView) → Leaving names f0 o0 f o → Ran names f0 o0 NoMemory f o
+pub no_memory : (names : List (List ℕ)) (f0 : Outside) (o0 : SinkView) (f : Outside) (o : SinkView) → Leaving names f0 o0 f o → Ran names f0 o0 NoMemory f o
 no_memory names f0 o0 f o leaving =
     stopped names f0 o0 NoMemory f o (λ h. h) (λ e. cc) leaving (λ e. cc) (λ e. cc) (λ e. cc) (λ a b. absurd (b refl)) (λ e. cc) (λ e. cc) (λ e. cc) (λ _ _ _ _. tt)
 
 -- before the first line
-pub no_world : (names : List (List ℕ)) (f0 : FilesView) (o0 : SinkView) → Ran names f0 o0 NoMemory f0 o0
+pub no_world : (names : List (List ℕ)) (f0 : Outside) (o0 : SinkView) → Ran names f0 o0 NoMemory f0 o0
 no_world names f0 o0 =
     no_memory names f0 o0 f0 o0 (record {
       reading = start names;
-      kept = Kept-none (start names) (files_of f0) (omega arith);
+      kept = Kept-none (start names) f0 (omega arith);
       later = omega arith;
       faultless = λ _ _. same o0.free;
       front = λ _. (0, Adds-none o0.written);
@@ -115,15 +115,15 @@ no_world names f0 o0 =
     same None = tt
     same (Some room) = λ _. refl
 
-pub write_fault : (names : List (List ℕ)) (f0 : FilesView) (o0 : SinkView) (r : Reading) (done : List (List ℕ)) (f : FilesView) (o : SinkView) → Leaving names f0 o0 f o →
-    Kept (start names) (files_of f0) r (files_of f) → Stands f0.told done r f.told → Rose o0.faults o.faults → Ran names f0 o0 WriteFault f o
+pub write_fault : (names : List (List ℕ)) (f0 : Outside) (o0 : SinkView) (r : Reading) (done : List (List ℕ)) (f : Outside) (o : SinkView) → Leaving names f0 o0 f o →
+    Kept (start names) f0 r f → Stands f0.told done r f.told → Rose o0.faults o.faults → Ran names f0 o0 WriteFault f o
 write_fault names f0 o0 r done f o leaving kept stands rose =
     stopped names f0 o0 WriteFault f o (λ h. h) (λ e. cc) leaving (λ e. cc) (λ e. cc) (λ e. cc)
     (λ a b. AddsSome-weaker f0.told.taken (Took done r) (λ entries. byte_count entries ≤ byte_limit) f.told.taken stands.taken (λ entries t. omega (arith, t.bytes, stands.within, kept.task.input_limit)))
     (λ e. cc) (λ e. cc) (λ e. rose) (λ _ no _ _. absurd (no rose))
 
 -- more lines than can be numbered
-pub too_many : (names : List (List ℕ)) (f0 : FilesView) (o0 : SinkView) (r : Reading) (f : FilesView) (o : SinkView) (w : World) (refused : Bool) (number : ℕ) (run : Running names f0 o0 r f o w refused number) →
+pub too_many : (names : List (List ℕ)) (f0 : Outside) (o0 : SinkView) (r : Reading) (f : Outside) (o : SinkView) (w : World) (refused : Bool) (number : ℕ) (run : Running names f0 o0 r f o w refused number) →
     18446744073709551615 ≤ number → IsTruthful f → Ran names f0 o0 InputTooLong f o
 too_many names f0 o0 r f o w refused number run many truthful =
     stopped names f0 o0 InputTooLong f o (λ h. h) (λ e. cc) (leaving names f0 o0 r f o w refused number run truthful r f run.kept) (λ e. cc) (λ e. cc)
@@ -136,7 +136,7 @@ too_many names f0 o0 r f o w refused number run many truthful =
 -- ---- faults of the input
 
 -- the blocks are those of these lines
-written_lines : (names : List (List ℕ)) (f0 : FilesView) (o0 : SinkView) (r : Reading) (f : FilesView) (o : SinkView) (w : World) (refused : Bool) (number : ℕ) (run : Running names f0 o0 r f o w refused number)
+written_lines : (names : List (List ℕ)) (f0 : Outside) (o0 : SinkView) (r : Reading) (f : Outside) (o : SinkView) (w : World) (refused : Bool) (number : ℕ) (run : Running names f0 o0 r f o w refused number)
     (entries : List Entry) → whole_lines entries ≡ run.done → Adds o0.written (out_of entries) o.written
 unfolding out_of
 written_lines names f0 o0 r f o w refused number run entries e =
@@ -154,7 +154,7 @@ names_by_count entries names names' begun e same le =
     (n, f ∙ ap (λ z. take z names) (sym n))
 
 -- the names that were tried in order
-tried_names : (names : List (List ℕ)) (f0 : FilesView) (r : Reading) (f : FilesView) → Kept (start names) (files_of f0) r (files_of f) → Adds f0.told.tried (take r.begun names) f.told.tried
+tried_names : (names : List (List ℕ)) (f0 : Outside) (r : Reading) (f : Outside) → Kept (start names) f0 r f → Adds f0.told.tried (take r.begun names) f.told.tried
 tried_names names f0 r f kept = kept.order f0.told.tried (Adds-none f0.told.tried)
 
 -- what was taken has no more bytes than the files
@@ -175,8 +175,8 @@ pub rose_more : (a b c : ℕ) → a ≤ b → Rose b c → Rose a c
 rose_more a b c h (inl lt) = inl (omega (arith, h, lt))
 rose_more a b c h (inr e) = inr e
 
-pub line_fault : (names : List (List ℕ)) (f0 : FilesView) (o0 : SinkView) (r : Reading) (f : FilesView) (o : SinkView) (w : World) (refused : Bool) (number : ℕ) (run : Running names f0 o0 r f o w refused number) →
-    IsTruthful f → (r' : Reading) (f' : FilesView) → IsTruthful f' → Kept (start names) (files_of f0) r' (files_of f') → (stop : LineFault) →
+pub line_fault : (names : List (List ℕ)) (f0 : Outside) (o0 : SinkView) (r : Reading) (f : Outside) (o : SinkView) (w : World) (refused : Bool) (number : ℕ) (run : Running names f0 o0 r f o w refused number) →
+    IsTruthful f → (r' : Reading) (f' : Outside) → IsTruthful f' → Kept (start names) f0 r' f' → (stop : LineFault) →
     (stop ≡ fault.Begin → Leaves Unopened r f.told r' f'.told) → (stop ≡ fault.Read → Leaves Unreadable r f.told r' f'.told) → (stop ≡ fault.InputTooLong → Leaves Overfull r f.told r' f'.told) →
     (stop ≡ fault.Begin → (0 < r'.begun) × Rose f.faults f'.faults) → (stop ≡ fault.Read → (0 < r'.begun) × Rose f.faults f'.faults) →
     Ran names f0 o0 (fault_status stop) f' o
@@ -232,8 +232,8 @@ refused_lines : (entries : List Entry) (done : List (List ℕ)) → whole_lines 
 unfolding any_refused
 refused_lines entries done e = ap (has_refusal first_world) e
 
-pub finished : (names : List (List ℕ)) (f0 : FilesView) (o0 : SinkView) (r : Reading) (f : FilesView) (o : SinkView) (w : World) (refused : Bool) (number : ℕ) (run : Running names f0 o0 r f o w refused number) →
-    IsTruthful f → (r' : Reading) (f' : FilesView) → Kept (start names) (files_of f0) r' (files_of f') → Leaves IsFinished r f.told r' f'.told → IsTruthful f' → Ran names f0 o0 (final_status refused) f' o
+pub finished : (names : List (List ℕ)) (f0 : Outside) (o0 : SinkView) (r : Reading) (f : Outside) (o : SinkView) (w : World) (refused : Bool) (number : ℕ) (run : Running names f0 o0 r f o w refused number) →
+    IsTruthful f → (r' : Reading) (f' : Outside) → Kept (start names) f0 r' f' → Leaves IsFinished r f.told r' f'.told → IsTruthful f' → Ran names f0 o0 (final_status refused) f' o
 finished names f0 o0 r f o w refused number run truthful r' f' kept leaves truthful' =
     let left = AddsSome-all f0.told.taken (IsFinished run.done r') (IsOfContent f'.content) f'.told.taken (leaves f0.told run.done run.stands) truthful' in
     let entries_are : (entries : List Entry) → IsFinished run.done r' entries × All (IsOfContent f'.content) entries → entries ≡ whole_files f0.content names =

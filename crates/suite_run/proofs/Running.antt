@@ -4,7 +4,7 @@ use Rattle.std.proofs.lemmas.List.{take_all, get_or-append-add}
 use Rattle.cl_io.specs.declared.lines.Line.{Line}
 use Rattle.cl_io.specs.declared.lines.Line.TheVariants.{Whole, TooLong, End}
 use Rattle.cl_io.specs.Answers.{Hands}
-use Rattle.cl_io.specs.Files.{Entry, IsOfContent}
+use Rattle.cl_io.specs.Files.{IsOfContent}
 use Rattle.cl_io.specs.Lines.{whole_lines}
 use Rattle.cl_io.specs.Reading.{Reading, Told, reading_of, Took, Stands}
 use Rattle.cl_io.specs.Sink.{Lowers, Takes}
@@ -15,38 +15,35 @@ use Rattle.cl_io.specs.TellingLaws.{Adds-none, Adds-more, Lowers-none, Lowers-mo
 use Rattle.suite_run.specs.declared.blocks.Block.{Block}
 use Rattle.suite_run.specs.declared.world.World.{World}
 use Rattle.suite_run.specs.Blocks.{block_text, world_after, blocks, has_refusal, out_of}
-use Rattle.suite_run.specs.Run.{FilesView, SinkView, IsTelling, whole_files}
+use Rattle.suite_run.specs.Run.{SinkView, IsTelling, whole_files}
 use Rattle.suite_run.specs.Shown.{Follows}
 use Rattle.suite_run.specs.World.{byte_limit, first_world, said, step, is_refusal, outcome, happens}
 use Rattle.suite_run.proofs.Revisions.{revision-step}
 use Rattle.suite_run.proofs.Wholes.{Begins-all, world_after-append, blocks-append, has_refusal-append}
 
-abbrev pub files_of : FilesView → Outside
-files_of f = record { told = f.told; places = f.places; faults = f.faults; steady = f.steady; content = f.content; knows = f.knows; there = f.there }
-
 -- a reader of files of these names before its first line
 abbrev pub start : List (List ℕ) → Reading
 start names = reading_of names byte_limit byte_limit
 
-abbrev pub Telling : List (List ℕ) → FilesView → Type 0
+abbrev pub Telling : List (List ℕ) → Outside → Type 0
 Telling names f = IsTelling names f.knows f.places f.told.taken
 
 -- the text of the whole run
-abbrev pub due : List (List ℕ) → FilesView → List ℕ
+abbrev pub due : List (List ℕ) → Outside → List ℕ
 due names f = out_of (whole_files f.content names)
 
 -- with room for the whole text no write fails
-abbrev pub Faultless : List (List ℕ) → FilesView → SinkView → ℕ → Type 0
+abbrev pub Faultless : List (List ℕ) → Outside → SinkView → ℕ → Type 0
 Faultless names f0 o0 faults = IsTrue o0.steady → Telling names f0 → IfSome o0.free (λ room. length (due names f0) ≤ room → faults ≡ o0.faults)
 
-abbrev pub IsTruthful : FilesView → Type 0
+abbrev pub IsTruthful : Outside → Type 0
 IsTruthful f = IfSome f.told.taken (All (IsOfContent f.content))
 
 -- the blocks of some lines were written, and the reader handed out no others
-pub record Running (names : List (List ℕ)) (f0 : FilesView) (o0 : SinkView) (r : Reading) (f : FilesView) (o : SinkView) (w : World) (refused : Bool) (number : ℕ) : Type 0 where
+pub record Running (names : List (List ℕ)) (f0 : Outside) (o0 : SinkView) (r : Reading) (f : Outside) (o : SinkView) (w : World) (refused : Bool) (number : ℕ) : Type 0 where
   pub done : List (List ℕ)
   pub count : length done + 1 ≡ number
-  pub kept : Kept (start names) (files_of f0) r (files_of f)
+  pub kept : Kept (start names) f0 r f
   pub stands : Stands f0.told done r f.told
   pub world_is : w ≡ world_after first_world done
   pub refused_is : refused ≡ has_refusal first_world done
@@ -59,13 +56,13 @@ pub record Running (names : List (List ℕ)) (f0 : FilesView) (o0 : SinkView) (r
 
 -- ---- before the first line
 
-pub Running-none : (names : List (List ℕ)) (f0 : FilesView) (o0 : SinkView) (r : Reading) (w : World) → r ≡ start names → ((base : Told) → Stands base [] r base) → w ≡ first_world →
+pub Running-none : (names : List (List ℕ)) (f0 : Outside) (o0 : SinkView) (r : Reading) (w : World) → r ≡ start names → ((base : Told) → Stands base [] r base) → w ≡ first_world →
     Running names f0 o0 r f0 o0 w false 1
 Running-none names f0 o0 r w fresh stands e =
     record {
       done = [];
       count = refl;
-      kept = let P : Reading → Type 0 = λ z. Kept (start names) (files_of f0) z (files_of f0) in subst P (sym fresh) (Kept-none (start names) (files_of f0) (omega arith));
+      kept = let P : Reading → Type 0 = λ z. Kept (start names) f0 z f0 in subst P (sym fresh) (Kept-none (start names) f0 (omega arith));
       stands = stands f0.told;
       world_is = e;
       refused_is = refl;
@@ -103,7 +100,7 @@ AddsSome-all None P Q (Some b) s q = absurd s
 AddsSome-all {A} (Some a) P Q (Some b) s q = let R : List A → Type 0 = All Q in (s.0, s.1, (s.2, All-back Q a s.0 (subst R s.1 q)))
 
 -- what is told of files that tell of all names
-pub telling : (names : List (List ℕ)) (f0 : FilesView) (r : Reading) (f : FilesView) → Kept (start names) (files_of f0) r (files_of f) → Telling names f0 →
+pub telling : (names : List (List ℕ)) (f0 : Outside) (r : Reading) (f : Outside) → Kept (start names) f0 r f → Telling names f0 →
     StaysTold f0.told.tried f.told.tried × IsSome f.told.taken
 telling names f0 r f kept tells =
     let t = kept.telling tells.known (omega (arith, tells.places)) in
@@ -111,11 +108,11 @@ telling names f0 r f kept tells =
 
 -- ---- the blocks written begin the text that is due
 
-pub record Fronts (names : List (List ℕ)) (f0 : FilesView) (done : List (List ℕ)) : Type 0 where
+pub record Fronts (names : List (List ℕ)) (f0 : Outside) (done : List (List ℕ)) : Type 0 where
   pub rest : List ℕ
   pub split : due names f0 ≡ blocks 1 first_world done ++ rest
 
-pub due_front : (names : List (List ℕ)) (f0 : FilesView) (r : Reading) (f : FilesView) (done : List (List ℕ)) → Kept (start names) (files_of f0) r (files_of f) → Stands f0.told done r f.told → IsTruthful f →
+pub due_front : (names : List (List ℕ)) (f0 : Outside) (r : Reading) (f : Outside) (done : List (List ℕ)) → Kept (start names) f0 r f → Stands f0.told done r f.told → IsTruthful f →
     Telling names f0 → Fronts names f0 done
 unfolding out_of
 due_front names f0 r f done kept stands truthful tells =
@@ -131,12 +128,12 @@ due_front names f0 r f done kept stands truthful tells =
 -- ---- one line more
 
 -- a line was handed out, of these bytes
-pub record Handed (f0 : FilesView) (done : List (List ℕ)) (line : Line) (r : Reading) (f : FilesView) : Type 0 where
+pub record Handed (f0 : Outside) (done : List (List ℕ)) (line : Line) (r : Reading) (f : Outside) : Type 0 where
   pub bytes : List ℕ
   pub hands : Hands line (bytes ∷ [])
   pub stands : Stands f0.told (done ++ bytes ∷ []) r f.told
 
-pub handed : (f0 : FilesView) (done : List (List ℕ)) (line : Line) (r : Reading) (f : FilesView) → (line ≡ End → ⊥) →
+pub handed : (f0 : Outside) (done : List (List ℕ)) (line : Line) (r : Reading) (f : Outside) → (line ≡ End → ⊥) →
     (more : List (List ℕ)) → Hands line more → Stands f0.told (done ++ more) r f.told → Handed f0 done line r f
 handed f0 done (Whole text) r f some more hands stands =
     let P : List (List ℕ) → Type 0 = λ z. Stands f0.told (done ++ z) r f.told in
@@ -163,19 +160,19 @@ room_left (Some room) None was text all faults0 faults faults' fits l a b = absu
 room_left (Some room) (Some left) was text all faults0 faults faults' fits l a b = λ h. b (omega (arith, l, h, fits)) ∙ a h
 
 -- the text that is due goes on with the block
-pub record NextFront (names : List (List ℕ)) (f0 : FilesView) (done : List (List ℕ)) (text : List ℕ) : Type 0 where
+pub record NextFront (names : List (List ℕ)) (f0 : Outside) (done : List (List ℕ)) (text : List ℕ) : Type 0 where
   pub rest : List ℕ
   pub split : due names f0 ≡ blocks 1 first_world done ++ (text ++ rest)
 
-pub next_front : (names : List (List ℕ)) (f0 : FilesView) (o0 : SinkView) (r : Reading) (f : FilesView) (o : SinkView) (w : World) (refused : Bool) (number : ℕ) (run : Running names f0 o0 r f o w refused number)
-    (r' : Reading) (f' : FilesView) (line : Line) (h : Handed f0 run.done line r' f') (w' : World) (block : Block) → Follows number (step w (said h.bytes)) w' block →
-    Kept (start names) (files_of f0) r' (files_of f') → IsTruthful f' → Telling names f0 → NextFront names f0 run.done block.text
+pub next_front : (names : List (List ℕ)) (f0 : Outside) (o0 : SinkView) (r : Reading) (f : Outside) (o : SinkView) (w : World) (refused : Bool) (number : ℕ) (run : Running names f0 o0 r f o w refused number)
+    (r' : Reading) (f' : Outside) (line : Line) (h : Handed f0 run.done line r' f') (w' : World) (block : Block) → Follows number (step w (said h.bytes)) w' block →
+    Kept (start names) f0 r' f' → IsTruthful f' → Telling names f0 → NextFront names f0 run.done block.text
 next_front names f0 o0 r f o w refused number run r' f' line h w' block follows kept truthful tells =
     let d = due_front names f0 r' f' (run.done ++ h.bytes ∷ []) kept h.stands truthful tells in
     let e = next_blocks run.done h.bytes number w block.text run.count run.world_is follows.text in
     record { rest = d.rest; split = d.split ∙ (ap (λ z. z ++ d.rest) e ∙ append_assoc (blocks 1 first_world run.done) block.text d.rest) }
 
-pub next_faultless : (names : List (List ℕ)) (f0 : FilesView) (o0 : SinkView) (r : Reading) (f : FilesView) (o : SinkView) (w : World) (refused : Bool) (number : ℕ) (run : Running names f0 o0 r f o w refused number)
+pub next_faultless : (names : List (List ℕ)) (f0 : Outside) (o0 : SinkView) (r : Reading) (f : Outside) (o : SinkView) (w : World) (refused : Bool) (number : ℕ) (run : Running names f0 o0 r f o w refused number)
     (text : List ℕ) (o' : SinkView) → (Telling names f0 → NextFront names f0 run.done text) →
     (IsTrue o.steady → IfSome o.free (λ room. length text ≤ room → o'.faults ≡ o.faults)) → Faultless names f0 o0 o'.faults
 next_faultless names f0 o0 r f o w refused number run text o' front put = λ s t.
@@ -184,9 +181,9 @@ next_faultless names f0 o0 r f o w refused number run text o' front put = λ s t
     omega (arith, ap length d.split, length-append (blocks 1 first_world run.done) (text ++ d.rest), length-append text d.rest) in
     room_left o0.free o.free _ _ _ _ _ _ fits run.free (run.faultless s t) (put (run.steady s))
 
-pub Running-more : (names : List (List ℕ)) (f0 : FilesView) (o0 : SinkView) (r : Reading) (f : FilesView) (o : SinkView) (w : World) (refused : Bool) (number : ℕ) (run : Running names f0 o0 r f o w refused number)
-    (r' : Reading) (f' : FilesView) (line : Line) (h : Handed f0 run.done line r' f') (w' : World) (block : Block) → Follows number (step w (said h.bytes)) w' block →
-    Kept (start names) (files_of f0) r' (files_of f') → IsTruthful f' →
+pub Running-more : (names : List (List ℕ)) (f0 : Outside) (o0 : SinkView) (r : Reading) (f : Outside) (o : SinkView) (w : World) (refused : Bool) (number : ℕ) (run : Running names f0 o0 r f o w refused number)
+    (r' : Reading) (f' : Outside) (line : Line) (h : Handed f0 run.done line r' f') (w' : World) (block : Block) → Follows number (step w (said h.bytes)) w' block →
+    Kept (start names) f0 r' f' → IsTruthful f' →
     (o' : SinkView) (refused' : Bool) → Adds o.written block.text o'.written → Lowers o.free (length block.text) o'.free → o.faults ≤ o'.faults → (IsTrue o.steady → IsTrue o'.steady) →
     (IsTrue o.steady → IfSome o.free (λ room. length block.text ≤ room → o'.faults ≡ o.faults)) →
     refused' ≡ (refused || block.refusal) →
@@ -223,12 +220,7 @@ all_taken {E} text result old new room left t ok =
     let L : ℕ → Type 0 = λ z. Lowers room z left in
     (subst W (ap (λ z. take z text) n ∙ take_all (length text) text (omega arith)) t.written, subst L n t.free)
 
--- what is known of files and of a sink, by the members of their traits
-abbrev pub files_view : {S : Type 0} (tried : S → Option (List (List ℕ))) (taken : S → Option (List Entry)) (places faults : S → ℕ) (steady : S → Bool)
-    (content : S → List ℕ → List ℕ) (knows there : S → List ℕ → Bool) → S → FilesView
-files_view tried taken places faults steady content knows there s =
-    record { told = record { tried = tried s; taken = taken s }; places = places s; faults = faults s; steady = steady s; content = content s; knows = knows s; there = there s }
-
+-- what is known of a sink, by the members of its trait
 abbrev pub sink_view : {S : Type 0} (written : S → Option (List ℕ)) (free : S → Option ℕ) (faults : S → ℕ) (steady : S → Bool) → S → SinkView
 sink_view written free faults steady s = record { written = written s; free = free s; faults = faults s; steady = steady s }
 

@@ -4,8 +4,9 @@ use Rattle.cl_io.specs.declared.lines.LineFault.{LineFault}
 use Rattle.cl_io.specs.declared.lines.LineFault.TheVariants as fault
 use Rattle.cl_io.specs.Causes.{Rose}
 use Rattle.cl_io.specs.Files.{Entry, IsEnded, names_of, byte_count}
+use Rattle.cl_io.specs.Keeping.{Outside}
 use Rattle.cl_io.specs.Lines.{first_bytes}
-use Rattle.cl_io.specs.Reading.{Told, IsCutShort}
+use Rattle.cl_io.specs.Reading.{IsCutShort}
 use Rattle.cl_io.specs.Telling.{Adds, AddsSome, StaysTold}
 use Rattle.suite_run.specs.declared.status.Status.{Status}
 use Rattle.suite_run.specs.declared.status.Status.TheVariants.{Done, SomeRefused, BadWords, OpenFault, ReadFault, WriteFault, NoMemory, InputTooLong}
@@ -54,16 +55,6 @@ fault_status fault.NoMemory = NoMemory
 abbrev pub AddsFront : Option (List ℕ) → List ℕ → Option (List ℕ) → Type 0
 AddsFront old text new = (count : ℕ) × Adds old (take count text) new
 
--- what is known of files
-pub record FilesView : Type 0 where
-  pub told : Told
-  pub places : ℕ
-  pub faults : ℕ
-  pub steady : Bool
-  pub content : List ℕ → List ℕ
-  pub knows : List ℕ → Bool
-  pub there : List ℕ → Bool
-
 -- what is known of a sink
 pub record SinkView : Type 0 where
   pub written : Option (List ℕ)
@@ -99,7 +90,7 @@ pub record IsOverfull (names : List (List ℕ)) (bytes bytes' : Option (List ℕ
   pub written : Adds bytes (out_of (first_bytes byte_limit entries)) bytes'
 
 -- What a run over the files of these names leaves, by its status.
-pub record Ran (names : List (List ℕ)) (files : FilesView) (sink : SinkView) (status : Status) (files' : FilesView) (sink' : SinkView) : Type 0 where
+pub record Ran (names : List (List ℕ)) (files : Outside) (sink : SinkView) (status : Status) (files' : Outside) (sink' : SinkView) : Type 0 where
   pub words : status ≡ BadWords → ⊥
   -- the whole output
   pub taken : IsFinal status → Adds files.told.taken (whole_files files.content names) files'.told.taken

@@ -1,7 +1,7 @@
 //! The run over the lines of files.
 ghost use Rattle.std.specs.Prelude.{◌≡◌, ◌↔◌, [], IsTrue};
 ghost use Rattle.cl_io.specs.Reading.{Told, told, Stands, reading_of};
-ghost use Rattle.suite_run.specs.Run.{Ran, FilesView, SinkView};
+ghost use Rattle.suite_run.specs.Run.{Ran, SinkView};
 ghost use Rattle.suite_run.specs.World.{byte_limit};
 
 use crate::status::Status;

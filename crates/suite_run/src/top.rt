@@ -5,7 +5,7 @@ ghost use Rattle.cl_io.specs.Files.{byte_count};
 ghost use Rattle.cl_io.specs.Reading.{told};
 ghost use Rattle.cl_io.specs.Telling.{Adds, AddsSome, StaysTold};
 ghost use Rattle.suite_run.specs.Blocks.{out_of, any_refused};
-ghost use Rattle.suite_run.specs.Run.{Ran, FilesView, SinkView, IsFinal, IsAnswered, whole_files, final_status, IsUnopened, IsUnreadable, IsOverfull, IsTelling, AddsFront};
+ghost use Rattle.suite_run.specs.Run.{Ran, SinkView, IsFinal, IsAnswered, whole_files, final_status, IsUnopened, IsUnreadable, IsOverfull, IsTelling, AddsFront};
 ghost use Rattle.suite_run.specs.Words.{words_mean, file_of, complaint, Says};
 ghost use Rattle.suite_run.specs.World.{byte_limit};
 

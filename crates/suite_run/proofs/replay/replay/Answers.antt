@@ -4,17 +4,18 @@ use Rattle.cl_io.specs.Answers.{KeepsLimit}
 use Rattle.cl_io.specs.Reading.{told}
 use Rattle.cl_io.specs.Sink.{Takes}
 use Rattle.cl_io.specs.KeepingLaws.{Kept-more}
+use Rattle.cl_io.specs.Keeping.{outside_of}
 use Rattle.suite_run.specs.declared.status.Status.{Status}
 use Rattle.suite_run.specs.Run.{Ran}
 use Rattle.suite_run.specs.World.{byte_limit}
 use Rattle.suite_run.proofs.Ending.{Leaving, rose_more, leaving, part_front, no_memory, write_fault, too_many, line_fault, finished}
-use Rattle.suite_run.proofs.Running.{Telling, start, files_of, files_view, sink_view, handed, Running-none, Running-more, next_front, next_faultless, all_taken, of_err, or_then, or_else}
+use Rattle.suite_run.proofs.Running.{Telling, start, sink_view, handed, Running-none, Running-more, next_front, next_faultless, all_taken, of_err, or_then, or_else}
 use Rattle.suite_run.proofs.replay.replay.Goals as goal
 use Rattle.suite_run.proofs.replay.replay.Goals.{then-refused, else-refused}
 
 pub loop-number-init : goal.loop-number-init
 loop-number-init g c =
-    let view = files_view g.F.Files.tried g.F.Files.taken g.F.Files.places g.F.Files.faults g.F.Files.steady g.F.Files.content g.F.Files.knows g.F.Files.there in
+    let view = outside_of g.F.Files.tried g.F.Files.taken g.F.Files.places g.F.Files.faults g.F.Files.steady g.F.Files.content g.F.Files.knows g.F.Files.there in
     let seen = sink_view g.O.Sink.written g.O.Sink.free g.O.Sink.faults g.O.Sink.steady in
     Running-none c.args.lines.now.names (view c.args.files.now) (seen c.args.out.now) c.args.lines.now c.in-Ok.world c.requires.fresh c.requires.stands c.in-Ok.ensures
 
@@ -24,11 +25,11 @@ turn-requires g c = let r = c.loop-number.invariant.revisions in let t = c.loop-
 pub returns-in-Err : goal.returns-in-Err
 returns-in-Err g c =
     let names = c.args.lines.now.names in
-    let view = files_view g.F.Files.tried g.F.Files.taken g.F.Files.places g.F.Files.faults g.F.Files.steady g.F.Files.content g.F.Files.knows g.F.Files.there in
+    let view = outside_of g.F.Files.tried g.F.Files.taken g.F.Files.places g.F.Files.faults g.F.Files.steady g.F.Files.content g.F.Files.knows g.F.Files.there in
     let seen = sink_view g.O.Sink.written g.O.Sink.free g.O.Sink.faults g.O.Sink.steady in
     let run = c.loop-number.invariant in
     let n = c.in-Err.ensures in
-    let kept = Kept-more (start names) c.loop-number.lines c.next.new.self (files_of (view c.args.files.now)) (files_of (view c.loop-number.files)) (files_of (view c.next.new.files)) run.kept n.task n.begun.0 n.begun.1 n.order n.later (λ s h. let u = n.unfailing s h in (u.faults, u.steady)) n.telling n.content n.knows n.there in
+    let kept = Kept-more (start names) c.loop-number.lines c.next.new.self (view c.args.files.now) (view c.loop-number.files) (view c.next.new.files) run.kept n.task n.begun.0 n.begun.1 n.order n.later (λ s h. let u = n.unfailing s h in (u.faults, u.steady)) n.telling n.content n.knows n.there in
     let P : Status → Type 0 = λ z. Ran names (view c.args.files.now) (seen c.args.out.now) z (view c.next.new.files) (seen c.loop-number.out) in
     subst P (sym c.of_fault.ensures)
     (line_fault names (view c.args.files.now) (seen c.args.out.now) c.loop-number.lines (view c.loop-number.files) (seen c.loop-number.out) c.loop-number.world c.loop-number.refused c.loop-number.number run (g.met.F.Files.truthful c.loop-number.files) c.next.new.self (view c.next.new.files) (g.met.F.Files.truthful c.next.new.files) kept c.in-Err.fault
@@ -37,11 +38,11 @@ returns-in-Err g c =
 pub returns-then-is_end : goal.returns-then-is_end
 returns-then-is_end g c =
     let names = c.args.lines.now.names in
-    let view = files_view g.F.Files.tried g.F.Files.taken g.F.Files.places g.F.Files.faults g.F.Files.steady g.F.Files.content g.F.Files.knows g.F.Files.there in
+    let view = outside_of g.F.Files.tried g.F.Files.taken g.F.Files.places g.F.Files.faults g.F.Files.steady g.F.Files.content g.F.Files.knows g.F.Files.there in
     let seen = sink_view g.O.Sink.written g.O.Sink.free g.O.Sink.faults g.O.Sink.steady in
     let run = c.loop-number.invariant in
     let n = c.in-Ok-next.ensures in
-    let kept = Kept-more (start names) c.loop-number.lines c.next.new.self (files_of (view c.args.files.now)) (files_of (view c.loop-number.files)) (files_of (view c.next.new.files)) run.kept n.task n.begun.0 n.begun.1 n.order n.later (λ s h. let u = n.unfailing s h in (u.faults, u.steady)) n.telling n.content n.knows n.there in
+    let kept = Kept-more (start names) c.loop-number.lines c.next.new.self (view c.args.files.now) (view c.loop-number.files) (view c.next.new.files) run.kept n.task n.begun.0 n.begun.1 n.order n.later (λ s h. let u = n.unfailing s h in (u.faults, u.steady)) n.telling n.content n.knows n.there in
     let P : Status → Type 0 = λ z. Ran names (view c.args.files.now) (seen c.args.out.now) z (view c.next.new.files) (seen c.loop-number.out) in
     subst P (sym c.of_whole.ensures)
     (finished names (view c.args.files.now) (seen c.args.out.now) c.loop-number.lines (view c.loop-number.files) (seen c.loop-number.out) c.loop-number.world c.loop-number.refused c.loop-number.number run (g.met.F.Files.truthful c.loop-number.files) c.next.new.self (view c.next.new.files) kept (n.end (ap Ok (c.is_end.ensures.0 c.if-is_end.true))) (g.met.F.Files.truthful c.next.new.files))
@@ -49,22 +50,22 @@ returns-then-is_end g c =
 pub returns-in_default-turn : goal.returns-in_default-turn
 returns-in_default-turn g c =
     let names = c.args.lines.now.names in
-    let view = files_view g.F.Files.tried g.F.Files.taken g.F.Files.places g.F.Files.faults g.F.Files.steady g.F.Files.content g.F.Files.knows g.F.Files.there in
+    let view = outside_of g.F.Files.tried g.F.Files.taken g.F.Files.places g.F.Files.faults g.F.Files.steady g.F.Files.content g.F.Files.knows g.F.Files.there in
     let seen = sink_view g.O.Sink.written g.O.Sink.free g.O.Sink.faults g.O.Sink.steady in
     let run = c.loop-number.invariant in
     let n = c.in-Ok-next.ensures in
-    let kept = Kept-more (start names) c.loop-number.lines c.next.new.self (files_of (view c.args.files.now)) (files_of (view c.loop-number.files)) (files_of (view c.next.new.files)) run.kept n.task n.begun.0 n.begun.1 n.order n.later (λ s h. let u = n.unfailing s h in (u.faults, u.steady)) n.telling n.content n.knows n.there in
+    let kept = Kept-more (start names) c.loop-number.lines c.next.new.self (view c.args.files.now) (view c.loop-number.files) (view c.next.new.files) run.kept n.task n.begun.0 n.begun.1 n.order n.later (λ s h. let u = n.unfailing s h in (u.faults, u.steady)) n.telling n.content n.knows n.there in
     no_memory names (view c.args.files.now) (seen c.args.out.now) (view c.next.new.files) (seen c.loop-number.out)
     (leaving names (view c.args.files.now) (seen c.args.out.now) c.loop-number.lines (view c.loop-number.files) (seen c.loop-number.out) c.loop-number.world c.loop-number.refused c.loop-number.number run (g.met.F.Files.truthful c.loop-number.files) c.next.new.self (view c.next.new.files) kept)
 
 pub returns-then-is_err : goal.returns-then-is_err
 returns-then-is_err g c =
     let names = c.args.lines.now.names in
-    let view = files_view g.F.Files.tried g.F.Files.taken g.F.Files.places g.F.Files.faults g.F.Files.steady g.F.Files.content g.F.Files.knows g.F.Files.there in
+    let view = outside_of g.F.Files.tried g.F.Files.taken g.F.Files.places g.F.Files.faults g.F.Files.steady g.F.Files.content g.F.Files.knows g.F.Files.there in
     let seen = sink_view g.O.Sink.written g.O.Sink.free g.O.Sink.faults g.O.Sink.steady in
     let run = c.loop-number.invariant in
     let n = c.in-Ok-next.ensures in
-    let kept = Kept-more (start names) c.loop-number.lines c.next.new.self (files_of (view c.args.files.now)) (files_of (view c.loop-number.files)) (files_of (view c.next.new.files)) run.kept n.task n.begun.0 n.begun.1 n.order n.later (λ s h. let u = n.unfailing s h in (u.faults, u.steady)) n.telling n.content n.knows n.there in
+    let kept = Kept-more (start names) c.loop-number.lines c.next.new.self (view c.args.files.now) (view c.loop-number.files) (view c.next.new.files) run.kept n.task n.begun.0 n.begun.1 n.order n.later (λ s h. let u = n.unfailing s h in (u.faults, u.steady)) n.telling n.content n.knows n.there in
     let limit : KeepsLimit byte_limit c.in-Ok-next.line = let P : ℕ → Type 0 = λ z. KeepsLimit z c.in-Ok-next.line in subst P run.kept.task.line_limit n.limit in
     let some : c.in-Ok-next.line ≡ End → ⊥ = λ e. let t = c.is_end.ensures.1 e in let f = c.if-is_end.false in cc in
     let more = n.goes_on (told (g.F.Files.tried c.args.files.now) (g.F.Files.taken c.args.files.now)) run.done run.stands in
@@ -88,11 +89,11 @@ returns-then-is_err g c =
 pub loop-number-preserved : goal.loop-number-preserved
 loop-number-preserved g c =
     let names = c.args.lines.now.names in
-    let view = files_view g.F.Files.tried g.F.Files.taken g.F.Files.places g.F.Files.faults g.F.Files.steady g.F.Files.content g.F.Files.knows g.F.Files.there in
+    let view = outside_of g.F.Files.tried g.F.Files.taken g.F.Files.places g.F.Files.faults g.F.Files.steady g.F.Files.content g.F.Files.knows g.F.Files.there in
     let seen = sink_view g.O.Sink.written g.O.Sink.free g.O.Sink.faults g.O.Sink.steady in
     let run = c.loop-number.invariant in
     let n = c.in-Ok-next.ensures in
-    let kept = Kept-more (start names) c.loop-number.lines c.next.new.self (files_of (view c.args.files.now)) (files_of (view c.loop-number.files)) (files_of (view c.next.new.files)) run.kept n.task n.begun.0 n.begun.1 n.order n.later (λ s h. let u = n.unfailing s h in (u.faults, u.steady)) n.telling n.content n.knows n.there in
+    let kept = Kept-more (start names) c.loop-number.lines c.next.new.self (view c.args.files.now) (view c.loop-number.files) (view c.next.new.files) run.kept n.task n.begun.0 n.begun.1 n.order n.later (λ s h. let u = n.unfailing s h in (u.faults, u.steady)) n.telling n.content n.knows n.there in
     let limit : KeepsLimit byte_limit c.in-Ok-next.line = let P : ℕ → Type 0 = λ z. KeepsLimit z c.in-Ok-next.line in subst P run.kept.task.line_limit n.limit in
     let some : c.in-Ok-next.line ≡ End → ⊥ = λ e. let t = c.is_end.ensures.1 e in let f = c.if-is_end.false in cc in
     let more = n.goes_on (told (g.F.Files.tried c.args.files.now) (g.F.Files.taken c.args.files.now)) run.done run.stands in
@@ -110,7 +111,7 @@ loop-number-preserved g c =
 pub returns : goal.returns
 returns g c =
     let names = c.args.lines.now.names in
-    let view = files_view g.F.Files.tried g.F.Files.taken g.F.Files.places g.F.Files.faults g.F.Files.steady g.F.Files.content g.F.Files.knows g.F.Files.there in
+    let view = outside_of g.F.Files.tried g.F.Files.taken g.F.Files.places g.F.Files.faults g.F.Files.steady g.F.Files.content g.F.Files.knows g.F.Files.there in
     let seen = sink_view g.O.Sink.written g.O.Sink.free g.O.Sink.faults g.O.Sink.steady in
     let run = c.loop-number.invariant in
     let t = c.loop-number-test.false in
