@@ -2,8 +2,8 @@
 use Rattle.std.proofs.Common.{◌≡◌, ◌≢◌, ℕ, suc, Bool, true, false, eqb, cond, List, [], ◌∷◌, ◌++◌, All, refl, ap, ◌∙◌, arith, ◌-◌, ◌≤◌, ltb, length, take}
 use Rattle.std.proofs.lemmas.Bool.Decides.{nat_tests}
 use Rattle.cl_io.specs.Files.{Entry, read_last, read_entry, byte_count}
-use Rattle.cl_io.specs.Front.{HasNoFeed}
 use Rattle.cl_io.specs.Lines.{lines_of, led_by, first_bytes}
+use Rattle.cl_io.specs.Steps.{HasNoFeed}
 
 pub All-tail : {A : Type 0} (P : A → Type 0) (x : A) (xs : List A) → All P (x ∷ xs) → All P xs
 All-tail P x xs h = λ k d lt. h (suc k) d (omega arith)

@@ -1,10 +1,10 @@
 -- Files in memory: what is told of them after a begin and after a read.
-use Rattle.std.proofs.Common.{◌≡◌, ℕ, zero, suc, ◌+◌, ◌-◌, ◌<◌, ◌≤◌, Bool, true, false, ◌&&◌, cond, eqb, IsTrue, Option, Some, None, is_some, is_none, MatchOption, option_map, unwrap_or, option_to_list, nat_eq, List, [], ◌∷◌, ◌++◌, length, take, drop, map, get_or, refl, sym, ap, ◌∙◌, subst, arith}
+use Rattle.std.proofs.Common.{◌≡◌, ℕ, zero, suc, ◌+◌, ◌-◌, ◌<◌, ◌≤◌, Bool, true, false, ◌&&◌, cond, eqb, IsTrue, Option, Some, None, is_some, is_none, MatchOption, option_map, unwrap_or, option_to_list, nat_eq, List, [], ◌∷◌, ◌++◌, length, take, drop, map, get_or, refl, sym, ap, ◌∙◌, subst, arith, ◌^◌, IfSome, Contains, Ok, Err}
 use Rattle.std.specs.Cmp.Lexicographic.{pointwise, same_text}
 use Rattle.std.specs.List.{slice_get}
 use Rattle.std.specs.Option.{ForSome}
 use Rattle.std.proofs.lemmas.Slice.{between_to_end}
-use Rattle.std.proofs.lemmas.List.{map-append, take_at, take_all, length-take-le, length-drop}
+use Rattle.std.proofs.lemmas.List.{map-append, take_at, take_all, length-take-le, length-drop, drop-drop, take-append-drop}
 use Rattle.std.proofs.lemmas.List.Quantifiers.{position-Some}
 use Rattle.std.proofs.lemmas.Option.{slice_get-get_or, unwrap_or-slice_get}
 use Rattle.std.proofs.Math.Dec.{eqb-suc-zero}
@@ -13,9 +13,10 @@ use Rattle.cl_io.specs.declared.mem_files.NamedBytes.{NamedBytes}
 use Rattle.cl_io.specs.declared.mem_files.Part.{Part}
 use Rattle.cl_io.specs.declared.mem_files.Place.{Place}
 use Rattle.cl_io.specs.declared.mem_files.Place.TheVariants.{Listed, Missing}
-use Rattle.cl_io.specs.Files.{Entry, begun_entry, read_entry, read_last}
+use Rattle.cl_io.specs.Files.{Entry, Adds, begun_entry, read_entry, read_last}
 use Rattle.cl_io.specs.Memory.{file_place, name_place, first_place, name_at, bytes_at, content_of, entry_of, tried_name, where_told, parts_of, fresh_part, part_after, IsReadable}
-use Rattle.cl_io.specs.Telling.{Adds}
+use Rattle.cl_io.specs.MemoryStates.{Fails, rest_of}
+use Rattle.cl_io.specs.Sink.{Lowers}
 use Rattle.cl_io.proofs.Feeds.{read_last-append}
 
 file_found : (files : List NamedBytes) (name : List ℕ) (k : ℕ) → file_place files name ≡ Some k → (k < length files) × (name_at files k ≡ name)
@@ -133,3 +134,49 @@ read_bytes xs copied buffer count n e le =
     let same : copied ≡ take n (drop count xs) = e ∙ ap (take n) (between_to_end xs count (length xs) (omega arith)) in
     let long : length (take n (drop count xs)) ≡ n = length-take-le n (drop count xs) (omega (arith, le, length-drop count xs)) in
     ap (λ z. take n (z ++ drop n buffer)) same ∙ take_at (take n (drop count xs)) (drop n buffer) n long
+
+-- where a file was begun, it is told of it
+pub some_taken : (files : List NamedBytes) (told : Bool) (earlier : List Part) (current : Option Part) (part : Part) → current ≡ Some part →
+    where_told told (map (entry_of files) (parts_of earlier current)) ≡ Some [] → ⊥
+some_taken files false earlier current part c h = cc
+some_taken files true [] current part c h =
+    let e : Some (entry_of files part ∷ []) ≡ Some [] = sym (ap (λ o. Some (map (entry_of files) (parts_of [] o))) c) ∙ h in cc
+some_taken files true (first ∷ earlier) current part c h = cc
+
+-- ---- which calls fail
+
+pub Fails-listed : {T E : Type 0} (fault : E) (failing : List ℕ) (call : ℕ) (Stopped : Type 0) → Contains failing call → Fails {T = T} (Err fault) failing call Stopped
+Fails-listed fault failing call Stopped h = record { listed = λ _. refl; stopped = λ _. refl; otherwise = λ never _. absurd (never h) }
+
+pub Fails-stopped : {T E : Type 0} (fault : E) (failing : List ℕ) (call : ℕ) (Stopped : Type 0) → Stopped → Fails {T = T} (Err fault) failing call Stopped
+Fails-stopped fault failing call Stopped h = record { listed = λ _. refl; stopped = λ _. refl; otherwise = λ _ never. absurd (never h) }
+
+pub Fails-none : {T E : Type 0} (x : T) (failing : List ℕ) (call : ℕ) (Stopped : Type 0) → (Contains failing call → ⊥) → (Stopped → ⊥) → Fails {E = E} (Ok x) failing call Stopped
+Fails-none x failing call Stopped never unstopped = record { listed = λ h. absurd (never h); stopped = λ h. absurd (unstopped h); otherwise = λ _ _. refl }
+
+-- how many bytes a read may give
+abbrev pub IsAllowed : Option ℕ → ℕ → ℕ → Type 0
+IsAllowed limit given allowed = IfSome limit (λ place. (place < 2 ^ 64) × (allowed ≡ place - given))
+
+pub none_allowed : (limit : Option ℕ) (given allowed : ℕ) → IsAllowed limit given allowed → (limit ≡ None → allowed ≡ 18446744073709551615) → allowed ≡ 0 → option_map (λ place. place - given) limit ≡ Some 0
+none_allowed None given allowed h never e = let most = never refl in absurd (omega arith)
+none_allowed (Some place) given allowed h never e = ap Some (sym h.1 ∙ e)
+
+pub some_allowed : (limit : Option ℕ) (given allowed : ℕ) → IsAllowed limit given allowed → (allowed ≡ 0 → ⊥) → option_map (λ place. place - given) limit ≡ Some 0 → ⊥
+some_allowed None given allowed h never e = cc
+some_allowed (Some place) given allowed h never e = let same : place - given ≡ 0 = cc in never (h.1 ∙ same)
+
+pub fewer_allowed : (limit : Option ℕ) (given given' allowed n : ℕ) → IsAllowed limit given allowed → n ≤ allowed → (given + n < 2 ^ 64 → given' ≡ given + n) → 0 < allowed →
+    Lowers (option_map (λ place. place - given) limit) n (option_map (λ place. place - given') limit)
+fewer_allowed None given given' allowed n h le e some = tt
+fewer_allowed (Some place) given given' allowed n h le e some =
+    let same : given' ≡ given + n = e (omega (arith, h.0, h.1, le, some)) in
+    omega (arith, h.1, le, same, some)
+
+-- what a read gives is the front of what was not read
+pub gives : (files : List NamedBytes) (current : Option Part) (part : Part) (n : ℕ) (bytes : List ℕ) → current ≡ Some part → bytes ≡ take n (drop part.count (bytes_at files part.file)) →
+    rest_of files current ≡ bytes ++ drop (part.count + n) (bytes_at files part.file)
+gives files current part n bytes c e =
+    let xs = bytes_at files part.file in
+    let more : drop n (drop part.count xs) ≡ drop (part.count + n) xs = drop-drop n part.count xs in
+    ap (rest_of files) c ∙ (sym (take-append-drop n (drop part.count xs)) ∙ (ap (λ z. take n (drop part.count xs) ++ z) more ∙ ap (λ z. z ++ drop (part.count + n) xs) (sym e)))

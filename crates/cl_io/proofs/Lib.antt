@@ -1,6 +1,6 @@
 pub mod Feeds
 pub mod InMemory
 pub mod Nexting
+pub mod Proceeding
 pub mod Putting
 pub mod Standing
-pub mod Turning

@@ -4,13 +4,11 @@ use Rattle.std.proofs.lemmas.Bool.Decides.{nat_tests}
 use Rattle.std.proofs.lemmas.List.{take_more, take_all}
 use Rattle.std.proofs.lemmas.List.Elements.{All-append}
 use Rattle.std.proofs.Math.Seq.{take-append_seam}
-use Rattle.cl_io.specs.Files.{Entry, IsEnded, begun_entry, read_entry, read_last, names_of, byte_count}
-use Rattle.cl_io.specs.Front.{HasNoFeed}
+use Rattle.cl_io.specs.Files.{FilesState, Adds, AddsSome, Entry, IsEnded, begun_entry, read_entry, read_last, names_of, byte_count}
+use Rattle.cl_io.specs.FilesLaws.{Adds-more, AddsSome-weaker}
 use Rattle.cl_io.specs.Lines.{lines_of, whole_lines, first_bytes}
-use Rattle.cl_io.specs.Reading.{Reading, Told, told, IsBetween, IsAmid, Took, Stands, IsFinished, IsUnopened, IsUnreadable, IsOverfull}
-use Rattle.cl_io.specs.Telling.{Adds, AddsSome}
-use Rattle.cl_io.specs.TellingLaws.{Adds-more, AddsSome-weaker}
-use Rattle.cl_io.specs.Turns.{with_pending, next_name, after_begin}
+use Rattle.cl_io.specs.Reader.{Reading, IsBetween, IsAmid, Took, Stands, IsFinished, IsUnopened, IsUnreadable, IsOverfull}
+use Rattle.cl_io.specs.Steps.{HasNoFeed, with_pending, next_name, after_begin}
 use Rattle.cl_io.specs.LinesLaws.{whole_lines-append, names_of-append, byte_count-append}
 use Rattle.cl_io.proofs.Feeds.{lines_of-feed, lines_of-open, lines_of-last, read_last-append}
 
@@ -192,7 +190,7 @@ first_bytes-less n (y ∷ xs) x b ended e =
 
 -- The steps of a reader
 
-pub Stands-fed : (base : Told) (done : List (List ℕ)) (r : Reading) (now : Told) (line rest : List ℕ) → r.pending ≡ line ++ 10 ∷ rest → HasNoFeed line →
+pub Stands-fed : (base : FilesState) (done : List (List ℕ)) (r : Reading) (now : FilesState) (line rest : List ℕ) → r.pending ≡ line ++ 10 ∷ rest → HasNoFeed line →
     Stands base done r now → Stands base (done ++ line ∷ []) (with_pending r rest) now
 Stands-fed base done r now line rest e h st =
     record {
@@ -202,51 +200,51 @@ Stands-fed base done r now line rest e h st =
       within = st.within;
     }
 
-pub Stands-begun : (base : Told) (done : List (List ℕ)) (r : Reading) (now : Told) (tried : Option (List (List ℕ))) (taken : Option (List Entry)) →
-    r.amid ≡ false → r.begun < length r.names → Adds now.tried (next_name r ∷ []) tried → Adds now.taken (begun_entry (next_name r) ∷ []) taken →
-    Stands base done r now → Stands base done (after_begin true r) (told tried taken)
-Stands-begun base done r now tried taken amid lt adds adds' st =
-    let P : List (List ℕ) → Type 0 = λ z. Adds base.tried z tried in
+pub Stands-begun : (base : FilesState) (done : List (List ℕ)) (r : Reading) (now : FilesState) (new : FilesState) →
+    r.amid ≡ false → r.begun < length r.names → Adds now.tried (next_name r ∷ []) new.tried → Adds now.taken (begun_entry (next_name r) ∷ []) new.taken →
+    Stands base done r now → Stands base done (after_begin true r) new
+Stands-begun base done r now new amid lt adds adds' st =
+    let P : List (List ℕ) → Type 0 = λ z. Adds base.tried z new.tried in
     record {
-      tried = subst P (sym (take_more r.names r.begun [] lt)) (Adds-more base.tried (take r.begun r.names) now.tried (next_name r ∷ []) tried st.tried adds);
-      taken = AddsSome-adds base.taken (Took done r) (Took done (after_begin true r)) now.taken (begun_entry (next_name r) ∷ []) taken st.taken adds'
+      tried = subst P (sym (take_more r.names r.begun [] lt)) (Adds-more base.tried (take r.begun r.names) now.tried (next_name r ∷ []) new.tried st.tried adds);
+      taken = AddsSome-adds base.taken (Took done r) (Took done (after_begin true r)) now.taken (begun_entry (next_name r) ∷ []) new.taken st.taken adds'
           (λ more t. Took-begun done r more amid lt t);
       within = st.within;
     }
 
-pub Stands-read : (base : Told) (done : List (List ℕ)) (r : Reading) (now : Told) (tried : Option (List (List ℕ))) (taken : Option (List Entry)) (b : ℕ) (bytes : List ℕ) →
-    r.amid ≡ true → tried ≡ now.tried → taken ≡ option_map (read_last (b ∷ bytes)) now.taken → r.total + length (b ∷ bytes) ≤ r.input_limit →
-    Stands base done r now → Stands base done (record r { pending = r.pending ++ b ∷ bytes; total = r.total + length (b ∷ bytes) }) (told tried taken)
-Stands-read base done r now tried taken b bytes amid same read within st =
+pub Stands-read : (base : FilesState) (done : List (List ℕ)) (r : Reading) (now : FilesState) (new : FilesState) (b : ℕ) (bytes : List ℕ) →
+    r.amid ≡ true → new.tried ≡ now.tried → new.taken ≡ option_map (read_last (b ∷ bytes)) now.taken → r.total + length (b ∷ bytes) ≤ r.input_limit →
+    Stands base done r now → Stands base done (record r { pending = r.pending ++ b ∷ bytes; total = r.total + length (b ∷ bytes) }) new
+Stands-read base done r now new b bytes amid same read within st =
     record {
       tried = let P : Option (List (List ℕ)) → Type 0 = λ z. Adds base.tried (take r.begun r.names) z in subst P (sym same) st.tried;
-      taken = AddsSome-map base.taken (Took done r) (Took done (record r { pending = r.pending ++ b ∷ bytes; total = r.total + length (b ∷ bytes) })) now.taken taken (read_last (b ∷ bytes)) st.taken read
+      taken = AddsSome-map base.taken (Took done r) (Took done (record r { pending = r.pending ++ b ∷ bytes; total = r.total + length (b ∷ bytes) })) now.taken new.taken (read_last (b ∷ bytes)) st.taken read
           (λ front more t. Took-read done r front more b bytes amid t);
       within = within;
     }
 
-pub Stands-ended : (base : Told) (done : List (List ℕ)) (r : Reading) (now : Told) (tried : Option (List (List ℕ))) (taken : Option (List Entry)) →
-    r.amid ≡ true → HasNoFeed r.pending → tried ≡ now.tried → taken ≡ option_map (read_last []) now.taken →
-    Stands base done r now → Stands base (done ++ last_line r.pending) (record r { amid = false; pending = [] }) (told tried taken)
-Stands-ended base done r now tried taken amid h same read st =
+pub Stands-ended : (base : FilesState) (done : List (List ℕ)) (r : Reading) (now : FilesState) (new : FilesState) →
+    r.amid ≡ true → HasNoFeed r.pending → new.tried ≡ now.tried → new.taken ≡ option_map (read_last []) now.taken →
+    Stands base done r now → Stands base (done ++ last_line r.pending) (record r { amid = false; pending = [] }) new
+Stands-ended base done r now new amid h same read st =
     record {
       tried = let P : Option (List (List ℕ)) → Type 0 = λ z. Adds base.tried (take r.begun r.names) z in subst P (sym same) st.tried;
-      taken = AddsSome-map base.taken (Took done r) (Took (done ++ last_line r.pending) (record r { amid = false; pending = [] })) now.taken taken (read_last []) st.taken read
+      taken = AddsSome-map base.taken (Took done r) (Took (done ++ last_line r.pending) (record r { amid = false; pending = [] })) now.taken new.taken (read_last []) st.taken read
           (λ front more t. Took-ended done r front more amid h t);
       within = st.within;
     }
 
-pub finished : (base : Told) (done : List (List ℕ)) (r : Reading) (now : Told) → r.amid ≡ false → length r.names ≤ r.begun →
+pub finished : (base : FilesState) (done : List (List ℕ)) (r : Reading) (now : FilesState) → r.amid ≡ false → length r.names ≤ r.begun →
     Stands base done r now → AddsSome base.taken (IsFinished done r) now.taken
 finished base done r now amid all st =
     AddsSome-weaker base.taken (Took done r) (IsFinished done r) now.taken st.taken
     (λ more t. let b = between done r more amid t in
     record { names = t.names ∙ take_all r.begun r.names all; ended = b.ended; lines = b.lines; within = omega (arith, t.bytes, st.within) })
 
-pub unopened : (base : Told) (done : List (List ℕ)) (r : Reading) (now : Told) (taken : Option (List Entry)) (left : List ℕ) → r.amid ≡ false →
-    Adds now.taken [] taken → Stands base done r now → AddsSome base.taken (IsUnopened done (with_pending (after_begin false r) left)) taken
-unopened base done r now taken left amid same st =
-    AddsSome-adds base.taken (Took done r) (IsUnopened done (with_pending (after_begin false r) left)) now.taken [] taken st.taken same
+pub unopened : (base : FilesState) (done : List (List ℕ)) (r : Reading) (now : FilesState) (new : FilesState) (left : List ℕ) → r.amid ≡ false →
+    Adds now.taken [] new.taken → Stands base done r now → AddsSome base.taken (IsUnopened done (with_pending (after_begin false r) left)) new.taken
+unopened base done r now new left amid same st =
+    AddsSome-adds base.taken (Took done r) (IsUnopened done (with_pending (after_begin false r) left)) now.taken [] new.taken st.taken same
     (λ more t. let b = between done r more amid t in
     let Q : List Entry → Type 0 = IsUnopened done (with_pending (after_begin false r) left) in
     let e : r.begun ≡ r.begun + 1 - 1 = omega arith in
@@ -254,7 +252,7 @@ unopened base done r now taken left amid same st =
     (record { names = t.names ∙ ap (λ k. take k r.names) e; ended = b.ended; lines = b.lines; within = omega (arith, t.bytes, st.within) }))
 
 -- between two files nothing is pending
-pub Stands-between : (base : Told) (done : List (List ℕ)) (r : Reading) (now : Told) (line : List ℕ) → r.amid ≡ false → r.pending ≡ [] →
+pub Stands-between : (base : FilesState) (done : List (List ℕ)) (r : Reading) (now : FilesState) (line : List ℕ) → r.amid ≡ false → r.pending ≡ [] →
     Stands base done (with_pending r line) now → Stands base done r now
 Stands-between base done r now line amid empty st =
     record {
@@ -266,19 +264,19 @@ Stands-between base done r now line amid empty st =
       within = st.within;
     }
 
-pub unreadable : (base : Told) (done : List (List ℕ)) (r : Reading) (now : Told) (taken : Option (List Entry)) (left : List ℕ) → r.amid ≡ true → HasNoFeed r.pending →
-    taken ≡ now.taken → Stands base done r now → AddsSome base.taken (IsUnreadable done (with_pending r left)) taken
-unreadable base done r now taken left amid h same st =
+pub unreadable : (base : FilesState) (done : List (List ℕ)) (r : Reading) (now : FilesState) (new : FilesState) (left : List ℕ) → r.amid ≡ true → HasNoFeed r.pending →
+    new.taken ≡ now.taken → Stands base done r now → AddsSome base.taken (IsUnreadable done (with_pending r left)) new.taken
+unreadable base done r now new left amid h same st =
     let P : Option (List Entry) → Type 0 = λ z. AddsSome base.taken (IsUnreadable done (with_pending r left)) z in
     subst P (sym same) (AddsSome-weaker base.taken (Took done r) (IsUnreadable done (with_pending r left)) now.taken st.taken
     (λ more t. let p = amidst done r more amid t in
     record { names = t.names; cut = p.cut; lines = cut_lines done r.pending more h p; within = omega (arith, t.bytes, st.within) }))
 
-pub overfull : (base : Told) (done : List (List ℕ)) (r : Reading) (now : Told) (taken : Option (List Entry)) (left : List ℕ) (b : ℕ) → r.amid ≡ true → HasNoFeed r.pending →
-    r.total ≡ r.input_limit → taken ≡ option_map (read_last (b ∷ [])) now.taken → Stands base done r now →
-    AddsSome base.taken (IsOverfull done (with_pending r left)) taken
-overfull base done r now taken left b amid h full read st =
-    AddsSome-map base.taken (Took done r) (IsOverfull done (with_pending r left)) now.taken taken (read_last (b ∷ [])) st.taken read
+pub overfull : (base : FilesState) (done : List (List ℕ)) (r : Reading) (now : FilesState) (new : FilesState) (left : List ℕ) (b : ℕ) → r.amid ≡ true → HasNoFeed r.pending →
+    r.total ≡ r.input_limit → new.taken ≡ option_map (read_last (b ∷ [])) now.taken → Stands base done r now →
+    AddsSome base.taken (IsOverfull done (with_pending r left)) new.taken
+overfull base done r now new left b amid h full read st =
+    AddsSome-map base.taken (Took done r) (IsOverfull done (with_pending r left)) now.taken new.taken (read_last (b ∷ [])) st.taken read
     (λ front more t.
     let p = amidst done r more amid t in
     let last' = read_entry (b ∷ []) p.cut.last in (

@@ -6,7 +6,8 @@ use Rattle.cl_io.specs.declared.mem_files.NamedBytes.{NamedBytes}
 use Rattle.cl_io.specs.declared.mem_files.Part.{Part}
 use Rattle.cl_io.specs.declared.mem_files.Place.{Place}
 use Rattle.cl_io.specs.declared.mem_files.Place.TheVariants.{Listed, Missing}
-use Rattle.cl_io.specs.Files.{Entry}
+use Rattle.cl_io.specs.Files.{Entry, FilesState}
+use Rattle.cl_io.specs.Sink.{SinkState}
 
 abbrev pub is_empty : {A : Type 0} → List A → Bool
 is_empty [] = true
@@ -79,3 +80,20 @@ pub record IsReadable (files : List NamedBytes) (part : Part) : Type 0 where
   pub first : content_of files (name_at files part.file) ≡ bytes_at files part.file
   pub within : part.count ≤ length (bytes_at files part.file)
   pub ended : part.ended ≡ true → part.count ≡ length (bytes_at files part.file)
+
+-- files in memory that weren't used yet
+abbrev pub fresh_state : List NamedBytes → List (List ℕ) → ℕ → Bool → FilesState
+fresh_state files missing begins steady = record {
+  content = content_of files;
+  knows = is_known files missing;
+  there = has_file files;
+  tried = Some [];
+  taken = Some [];
+  places = begins;
+  faults = 0;
+  steady = steady;
+}
+
+-- a sink in memory that took nothing yet
+abbrev pub fresh_sink : ℕ → Bool → SinkState
+fresh_sink room steady = record { written = Some []; free = Some room; faults = 0; steady = steady }

@@ -1,11 +1,12 @@
-ghost use Rattle.std.specs.Prelude.{◌≡◌, ℕ, ◌+◌, ◌-◌, ◌^◌, ◌<◌, ◌≤◌, [], ◌∷◌, ◌⊎◌, length, true, false, Ok, Err, Some, IsTrue, IsOk, IfOk, OnOk, OnErr, option_map};
+ghost use Rattle.std.proofs.Common.{rules};
+ghost use Rattle.std.proofs.lemmas.Grind.{common_steps};
+ghost use Rattle.std.specs.Prelude.{◌≡◌, ℕ, ◌+◌, ◌-◌, ◌^◌, ◌<◌, ◌≤◌, [], ◌∷◌, ◌⊎◌, length, true, false, Ok, Err, IsTrue, IsOk, IsSome, IfOk, OnOk, OnErr, option_map};
 ghost use Rattle.std.specs.Option.{option_copied};
 ghost use Rattle.std.specs.List.{slice_get};
 ghost use Rattle.cl_io.specs.declared.lines.LineFault.TheVariants.{NoMemory as no_memory};
-ghost use Rattle.cl_io.specs.Answers.{IsUnfailing};
-ghost use Rattle.cl_io.specs.Causes.{Rose};
-ghost use Rattle.cl_io.specs.Files.{begun_entry, read_last};
-ghost use Rattle.cl_io.specs.Telling.{Adds, StaysTold};
+ghost use Rattle.cl_types.specs.Causes.{Rose};
+ghost use Rattle.cl_io.specs.Files.{FilesState, Adds, Lasts, Reads, ReadsNothing, begun_entry, read_last};
+ghost use Rattle.cl_io.specs.Reader.{IsUnfailing};
 
 use crate::files::Files;
 use cl_types::{Copies, List, NoMemory, Text};
@@ -17,7 +18,7 @@ use thiserror::Error;
 const CHUNK: u64 = 8192;
 
 /// An answer of a reader of lines: a line without its line feed, the length of one that is too long, or the end of all files.
-#[derive(Debug, Drop)]
+#[derive(Clone, Debug, Drop)]
 pub enum Line {
     Whole(Text),
     TooLong(u64),
@@ -25,13 +26,7 @@ pub enum Line {
 }
 
 impl Copies for Line {
-    fn copy(&self) -> Result<Line, NoMemory> {
-        match self {
-            Line::Whole(text) => Ok(Line::Whole(text.copy()?)),
-            Line::TooLong(count) => Ok(Line::TooLong(*count)),
-            Line::End => Ok(Line::End),
-        }
-    }
+    ghost exact = { λ x y h. Prim.search (rules, common_steps) };
 }
 
 /// Why a reader of lines stopped.
@@ -64,8 +59,8 @@ struct Front {
 }
 
 impl Front {
-    ghost use Rattle.cl_io.specs.Front.{IsFront, Gains};
-    ghost use Rattle.cl_io.specs.Answers.{Hands, KeepsLimit};
+    ghost use Rattle.cl_io.specs.Steps.{IsFront, Gains};
+    ghost use Rattle.cl_io.specs.Reader.{Hands, KeepsLimit};
 
     fn new(alloc: Global, limit: u64) -> Front
         ensures empty { IsFront result [] }
@@ -102,8 +97,8 @@ impl Front {
     }
 }
 
-// What a step of a reader came to.
-enum Turn {
+// How far a step of a reader came.
+enum Progress {
     On,
     LineEnds,
     NoMore,
@@ -126,7 +121,7 @@ pub struct Lines {
 
 impl Model for Lines {
     ghost use Rattle.std.specs.Prelude.{◌≡◌, ◌+◌, ◌<◌, ◌≤◌, true, length, drop};
-    ghost use Rattle.cl_io.specs.Reading.{Reading};
+    ghost use Rattle.cl_io.specs.Reader.{Reading};
 
     ghost Value = { Reading };
 
@@ -146,16 +141,14 @@ impl Model for Lines {
 }
 
 impl Lines {
-    ghost use Rattle.cl_io.specs.Answers.{Hands, KeepsLimit, GoesOn, Leaves, BeginsInOrder, EachLeft, KeepsTelling};
-    ghost use Rattle.cl_io.specs.Front.{IsFront, Gains, HasNoFeed, Parts};
-    ghost use Rattle.cl_io.specs.Turns.{with_pending, next_name, after_begin, after_read, steps_left, Turns};
-    ghost use Rattle.cl_io.specs.Reading.{Reading, reading_of, SameTask, Told, told, Stands, IsFinished, IsUnopened, IsUnreadable, IsOverfull};
+    ghost use Rattle.cl_io.specs.Steps.{IsFront, Gains, HasNoFeed, Parts, with_pending, next_name, after_begin, after_read, steps_left, ComesTo};
+    ghost use Rattle.cl_io.specs.Reader.{Reading, reading_of, Kept, Stands, Hands, KeepsLimit, GoesOn, Leaves, EachLeft, UsesByte, IsFinished, IsUnopened, IsUnreadable, IsOverfull};
 
     /// A reader of the files of these names, in order. No line that it gives is longer than `line_limit` bytes,
-    /// and it takes no more than `input_limit` bytes and one of all the files. It takes no memory.
+    /// and it takes no more than `input_limit` bytes and one of all the files. It does not allocate.
     pub fn new(alloc: Global, names: List<Text>, line_limit: u64, input_limit: u64) -> Lines
         ensures value { result ≡ reading_of names line_limit input_limit }
-        ensures stands { (base : Told) → Stands base [] result base }
+        ensures stands { (base : FilesState) → Stands base [] result base }
     {
         Lines {
             alloc,
@@ -183,100 +176,70 @@ impl Lines {
 
     /// The next line, or `End` after the last of the last file.
     pub fn next<F: Files>(&mut self, files: &mut F) -> Result<Line, LineFault>
+        ensures kept { Kept self.old (F.state files.old) self.new (F.state files.new) }
+        ensures begun { self.new.begun ≤ length self.new.names }
         ensures limit { IfOk result (KeepsLimit self.old.line_limit) }
-        ensures task { SameTask self.old self.new }
-        ensures begun { (self.old.begun ≤ self.new.begun) × (self.new.begun ≤ length self.new.names) }
+        ensures uses { IfOk result (λ line. UsesByte self.old line self.new) }
 
         // Where only this reader used the files from some base on.
-        ensures goes_on { let before = told (F.tried files.old) (F.taken files.old) in
-            let after = told (F.tried files.new) (F.taken files.new) in
-            IfOk result (λ line. GoesOn self.old before line self.new after) }
-        ensures end { let before = told (F.tried files.old) (F.taken files.old) in
-            let after = told (F.tried files.new) (F.taken files.new) in
-            result ≡ Ok Line.End → Leaves IsFinished self.old before self.new after }
-        ensures unopened { let before = told (F.tried files.old) (F.taken files.old) in
-            let after = told (F.tried files.new) (F.taken files.new) in
-            result ≡ Err LineFault.Begin → Leaves IsUnopened self.old before self.new after }
-        ensures unreadable { let before = told (F.tried files.old) (F.taken files.old) in
-            let after = told (F.tried files.new) (F.taken files.new) in
-            result ≡ Err LineFault.Read → Leaves IsUnreadable self.old before self.new after }
-        ensures overfull { let before = told (F.tried files.old) (F.taken files.old) in
-            let after = told (F.tried files.new) (F.taken files.new) in
-            result ≡ Err LineFault.InputTooLong → Leaves IsOverfull self.old before self.new after }
-        ensures order { let before = told (F.tried files.old) (F.taken files.old) in
-            let after = told (F.tried files.new) (F.taken files.new) in
-            BeginsInOrder self.old before self.new after }
+        ensures goes_on { IfOk result
+            (λ line. GoesOn self.old (F.state files.old) line self.new (F.state files.new)) }
+        ensures end { result ≡ Ok Line.End
+            → Leaves IsFinished self.old (F.state files.old) self.new (F.state files.new) }
+        ensures unopened { result ≡ Err LineFault.Begin
+            → Leaves IsUnopened self.old (F.state files.old) self.new (F.state files.new) }
+        ensures unreadable { result ≡ Err LineFault.Read
+            → Leaves IsUnreadable self.old (F.state files.old) self.new (F.state files.new) }
+        ensures overfull { result ≡ Err LineFault.InputTooLong
+            → Leaves IsOverfull self.old (F.state files.old) self.new (F.state files.new) }
 
         // Causes of failures.
-        ensures later { F.faults files.old ≤ F.faults files.new }
         ensures begin_cause { result ≡ Err LineFault.Begin
-            → (0 < self.new.begun) × Rose (F.faults files.old) (F.faults files.new) }
+            → (0 < self.new.begun) × Rose (F.state files.old).faults (F.state files.new).faults }
         ensures read_cause { result ≡ Err LineFault.Read
-            → (0 < self.new.begun) × Rose (F.faults files.old) (F.faults files.new) }
-        ensures unfailing { IsTrue (F.steady files.old) → EachLeft (F.there files.old) self.old
-            → IsUnfailing (F.faults files.old) result (F.faults files.new) (F.steady files.new) }
-
-        // What is told of the files.
-        ensures telling { let before = told (F.tried files.old) (F.taken files.old) in
-            let after = told (F.tried files.new) (F.taken files.new) in
-            EachLeft (F.knows files.old) self.old → length self.old.names ≤ F.places files.old + self.old.begun
-            → KeepsTelling self.old before (F.places files.old) self.new after (F.places files.new) }
-        ensures content { F.content files.new ≡ F.content files.old }
-        ensures knows { F.knows files.new ≡ F.knows files.old }
-        ensures there { F.there files.new ≡ F.there files.old }
+            → (0 < self.new.begun) × Rose (F.state files.old).faults (F.state files.new).faults }
+        ensures unfailing { IsTrue (F.state files.old).steady → EachLeft (F.state files.old).there self.old
+            → IsUnfailing result }
     {
         let mut front = Front::new(self.alloc, self.line_limit);
         loop {
-            match self.turn(files, &mut front)? {
-                Turn::On => {}
-                Turn::LineEnds => return Ok(front.into_line()),
-                Turn::NoMore => return Ok(Line::End),
+            match self.proceed(files, &mut front)? {
+                Progress::On => {}
+                Progress::LineEnds => return Ok(front.into_line()),
+                Progress::NoMore => return Ok(Line::End),
             }
         }
     }
 
     // Goes on by one step: to the end of the line, or into the next bytes or the next file.
-    fn turn<F: Files>(&mut self, files: &mut F, front: &mut Front) -> Result<Turn, LineFault>
+    fn proceed<F: Files>(&mut self, files: &mut F, front: &mut Front) -> Result<Progress, LineFault>
         requires { front.old.length + length self.old.pending ≤ self.old.total }
-        ensures task { SameTask self.old self.new }
-        ensures begun { (self.old.begun ≤ self.new.begun)
-            × (self.old.begun ≤ length self.old.names → self.new.begun ≤ length self.new.names) }
+        ensures kept { Kept self.old (F.state files.old) self.new (F.state files.new) }
         ensures limit { OnOk result (front.new.limit ≡ front.old.limit) }
+        ensures comes_to { (line : List ℕ) → IsFront front.old line → HasNoFeed line
+            → ComesTo self.old (F.state files.old) line result self.new (F.state files.new) front.new }
+        ensures nearer { result ≡ Ok Progress.On → steps_left self.new < steps_left self.old }
 
-        ensures turns { let was = told (F.tried files.old) (F.taken files.old) in
-            let now = told (F.tried files.new) (F.taken files.new) in
-            (line : _) → IsFront front.old line → HasNoFeed line → Turns self.old was line result self.new now front.new }
-        ensures order { BeginsInOrder self.old (told (F.tried files.old) (F.taken files.old))
-            self.new (told (F.tried files.new) (F.taken files.new)) }
-
-        ensures later { F.faults files.old ≤ F.faults files.new }
         ensures begin_cause { result ≡ Err LineFault.Begin
-            → (0 < self.new.begun) × Rose (F.faults files.old) (F.faults files.new) }
+            → (0 < self.new.begun) × Rose (F.state files.old).faults (F.state files.new).faults }
         ensures read_cause { result ≡ Err LineFault.Read
-            → (0 < self.new.begun) × Rose (F.faults files.old) (F.faults files.new) }
-        ensures unfailing { IsTrue (F.steady files.old) → EachLeft (F.there files.old) self.old
-            → IsUnfailing (F.faults files.old) result (F.faults files.new) (F.steady files.new) }
-        ensures telling { EachLeft (F.knows files.old) self.old → length self.old.names ≤ F.places files.old + self.old.begun
-            → KeepsTelling self.old (told (F.tried files.old) (F.taken files.old)) (F.places files.old)
-            self.new (told (F.tried files.new) (F.taken files.new)) (F.places files.new) }
-        ensures content { F.content files.new ≡ F.content files.old }
-        ensures knows { F.knows files.new ≡ F.knows files.old }
-        ensures there { F.there files.new ≡ F.there files.old }
-        ensures nearer { result ≡ Ok Turn.On → steps_left self.new < steps_left self.old }
+            → (0 < self.new.begun) × Rose (F.state files.old).faults (F.state files.new).faults }
+        ensures unfailing { IsTrue (F.state files.old).steady → EachLeft (F.state files.old).there self.old
+            → IsUnfailing result }
     {
         if self.advance(front)? {
-            return Ok(Turn::LineEnds);
+            return Ok(Progress::LineEnds);
         }
         if self.amid {
             let more = self.fill(files)?;
             Ok(if more || front.length == 0 {
-                Turn::On
+                Progress::On
             } else {
-                Turn::LineEnds
+                Progress::LineEnds
             })
         } else {
             let more = self.begin(files)?;
-            Ok(if more { Turn::On } else { Turn::NoMore })
+            Ok(if more { Progress::On } else { Progress::NoMore })
         }
     }
 
@@ -306,30 +269,23 @@ impl Lines {
     // Reads on in the file that was begun last, and says whether more came.
     fn fill<F: Files>(&mut self, files: &mut F) -> Result<bool, LineFault>
         requires { self.old.amid ≡ true }
-        ensures reads { IfOk result (λ more. (self.new ≡ after_read self.new.pending self.old)
+        ensures kept { Kept self.old (F.state files.old) self.new (F.state files.new) }
+        ensures ok { IfOk result (λ more. (self.new ≡ after_read self.new.pending self.old)
             × (more ≡ self.new.amid)) }
         ensures within { OnOk result (self.new.total ≤ self.new.input_limit) }
         ensures begun { 0 < self.new.begun }
-        ensures taken { OnOk result
-            (F.taken files.new ≡ option_map (read_last self.new.pending) (F.taken files.old)) }
-        ensures tried { F.tried files.new ≡ F.tried files.old }
+        ensures reads { OnOk result (Reads self.new.pending (F.state files.old) (F.state files.new)) }
 
         ensures err { OnErr result (self.new ≡ with_pending self.old self.new.pending) }
-        ensures read { result ≡ Err LineFault.Read → F.taken files.new ≡ F.taken files.old }
+        ensures read { result ≡ Err LineFault.Read
+            → (F.state files.new).taken ≡ (F.state files.old).taken }
         ensures over { result ≡ Err LineFault.InputTooLong
-            → (self.old.total ≡ self.old.input_limit)
-            × ((byte : ℕ) × (F.taken files.new ≡ option_map (read_last (byte ∷ [])) (F.taken files.old))) }
+            → (self.old.total ≡ self.old.input_limit) × ((byte : ℕ)
+            × ((F.state files.new).taken ≡ option_map (read_last (byte ∷ [])) (F.state files.old).taken)) }
         ensures no_begin { result ≡ Err LineFault.Begin → ⊥ }
-        ensures telling { StaysTold (F.taken files.old) (F.taken files.new) }
-        ensures places { F.places files.new ≡ F.places files.old }
-
-        ensures later { F.faults files.old ≤ F.faults files.new }
-        ensures cause { result ≡ Err LineFault.Read → Rose (F.faults files.old) (F.faults files.new) }
-        ensures unfailing { IsTrue (F.steady files.old)
-            → IsUnfailing (F.faults files.old) result (F.faults files.new) (F.steady files.new) }
-        ensures content { F.content files.new ≡ F.content files.old }
-        ensures knows { F.knows files.new ≡ F.knows files.old }
-        ensures there { F.there files.new ≡ F.there files.old }
+        ensures cause { result ≡ Err LineFault.Read
+            → Rose (F.state files.old).faults (F.state files.new).faults }
+        ensures unfailing { IsTrue (F.state files.old).steady → IsUnfailing result }
     {
         let left = self.input_limit - self.total;
         let most = left.min(CHUNK).max(1);
@@ -347,30 +303,19 @@ impl Lines {
     // Begins the next file, and says whether there was one.
     fn begin<F: Files>(&mut self, files: &mut F) -> Result<bool, LineFault>
         requires { self.old.amid ≡ false }
+        ensures kept { Kept self.old (F.state files.old) self.new (F.state files.new) }
         ensures none { result ≡ Ok false → (self.new ≡ self.old)
-            × (length self.old.names ≤ self.old.begun) × (files.new ≡ files.old) }
+            × (length self.old.names ≤ self.old.begun) × (F.state files.new ≡ F.state files.old) }
         ensures some { result ≡ Ok true → (self.old.begun < length self.old.names)
             × (self.new ≡ after_begin true self.old)
-            × Adds (F.taken files.old) (begun_entry (next_name self.old) ∷ []) (F.taken files.new) }
+            × Adds (F.state files.old).taken (begun_entry (next_name self.old) ∷ []) (F.state files.new).taken
+            × Adds (F.state files.old).tried (next_name self.old ∷ []) (F.state files.new).tried }
         ensures err { OnErr result ((result ≡ Err LineFault.Begin)
-            × (self.old.begun < length self.old.names) × (self.new ≡ after_begin false self.old)
-            × Adds (F.taken files.old) [] (F.taken files.new)) }
-        ensures tried { self.new.begun ≡ self.old.begun + 1
-            → Adds (F.tried files.old) (next_name self.old ∷ []) (F.tried files.new) }
-        ensures telling { self.new.begun ≡ self.old.begun + 1
-            → IsTrue (F.knows files.old (next_name self.old)) → 0 < F.places files.old
-            → StaysTold (F.tried files.old) (F.tried files.new)
-            × StaysTold (F.taken files.old) (F.taken files.new)
-            × (F.places files.new + 1 ≡ F.places files.old) }
-
-        ensures later { F.faults files.old ≤ F.faults files.new }
-        ensures cause { OnErr result (Rose (F.faults files.old) (F.faults files.new)) }
-        ensures unfailing { IsTrue (F.steady files.old)
-            → (self.old.begun < length self.old.names → IsTrue (F.there files.old (next_name self.old)))
-            → IsUnfailing (F.faults files.old) result (F.faults files.new) (F.steady files.new) }
-        ensures content { F.content files.new ≡ F.content files.old }
-        ensures knows { F.knows files.new ≡ F.knows files.old }
-        ensures there { F.there files.new ≡ F.there files.old }
+            × (self.new ≡ after_begin false self.old)
+            × Adds (F.state files.old).taken [] (F.state files.new).taken) }
+        ensures cause { OnErr result (Rose (F.state files.old).faults (F.state files.new).faults) }
+        ensures unfailing { IsTrue (F.state files.old).steady → EachLeft (F.state files.old).there self.old
+            → IsOk result }
     {
         let names = self.names.as_slice();
         if self.begun >= names.len() {
@@ -390,19 +335,16 @@ impl Lines {
 fn read_chunk<F: Files>(files: &mut F, chunk: &mut Vec<u8>, most: u64) -> Result<u64, LineFault>
     requires { 0 < most }
     ensures count { IfOk result (λ count. (count ≡ length chunk.new.items) × (count ≤ most)) }
-    ensures taken { OnOk result (F.taken files.new ≡ option_map (read_last chunk.new.items) (F.taken files.old)) }
-    ensures not_taken { OnErr result (F.taken files.new ≡ F.taken files.old) }
+    ensures lasts { Lasts (F.state files.old) (F.state files.new) }
+    ensures reads { OnOk result (Reads chunk.new.items (F.state files.old) (F.state files.new)) }
+    ensures reads_nothing { OnErr result (ReadsNothing (F.state files.old) (F.state files.new)) }
     ensures empty { OnErr result (chunk.new.items ≡ []) }
     ensures err { OnErr result ((result ≡ Err LineFault.Read) ⊎ (result ≡ Err LineFault.NoMemory)) }
-    ensures tried { F.tried files.new ≡ F.tried files.old }
-    ensures places { F.places files.new ≡ F.places files.old }
-    ensures later { F.faults files.old ≤ F.faults files.new }
-    ensures cause { result ≡ Err LineFault.Read → Rose (F.faults files.old) (F.faults files.new) }
-    ensures unfailing { IsTrue (F.steady files.old)
-        → IsUnfailing (F.faults files.old) result (F.faults files.new) (F.steady files.new) }
-    ensures content { F.content files.new ≡ F.content files.old }
-    ensures knows { F.knows files.new ≡ F.knows files.old }
-    ensures there { F.there files.new ≡ F.there files.old }
+    ensures cause { result ≡ Err LineFault.Read
+        → Rose (F.state files.old).faults (F.state files.new).faults }
+    ensures steady { IsTrue (F.state files.old).steady
+        → (F.state files.new).faults ≡ (F.state files.old).faults }
+    ensures unfailing { IsTrue (F.state files.old).steady → IsUnfailing result }
 {
     chunk.clear();
     chunk.resize(most as usize, 0)?;

@@ -1,6 +1,8 @@
-ghost use Rattle.std.specs.Prelude.{◌≡◌, ◌≤◌, ◌<◌, ◌+◌, ◌-◌, ◌&&◌, ◌==◌, true, false, [], ◌∷◌, ◌++◌, Some, None, IsTrue, IfOk, MatchOption, is_none, is_some, length, map, option_to_list, vec_len, vec_capacity, nat_lt, if◌then◌else◌};
+ghost use Rattle.std.proofs.Common.{rules};
+ghost use Rattle.std.proofs.lemmas.Grind.{common_steps};
+ghost use Rattle.std.specs.Prelude.{◌≡◌, ◌≤◌, ◌<◌, ◌+◌, ◌-◌, ◌^◌, ◌&&◌, ◌==◌, true, false, [], ◌∷◌, ◌++◌, Some, None, IsTrue, IfSome, IfOk, MatchOption, is_none, is_some, length, map, option_to_list, vec_len, vec_capacity, nat_lt, if◌then◌else◌};
 ghost use Rattle.std.specs.Option.{ForSome, ForNone};
-ghost use Rattle.cl_io.specs.Memory.{content_of, bytes_at, name_at, has_file, is_known, is_empty, file_place, name_place, entry_of, tried_name, where_told, parts_of, fresh_part, part_after, first_place, IsReadable};
+ghost use Rattle.cl_io.specs.Memory.{content_of, bytes_at, name_at, has_file, is_known, is_empty, file_place, name_place, entry_of, tried_name, where_told, parts_of, fresh_part, part_after, first_place, fresh_state, IsReadable};
 
 use crate::files::{Failed, Files};
 use crate::script::Script;
@@ -8,19 +10,14 @@ use cl_types::{Copies, List, NoMemory, Text};
 use std::alloc::Global;
 
 /// A file in memory.
-#[derive(Debug, Drop)]
+#[derive(Clone, Debug, Drop)]
 pub struct NamedBytes {
     pub name: Text,
     pub bytes: Text,
 }
 
 impl Copies for NamedBytes {
-    fn copy(&self) -> Result<NamedBytes, NoMemory> {
-        Ok(NamedBytes {
-            name: self.name.copy()?,
-            bytes: self.bytes.copy()?,
-        })
-    }
+    ghost exact = { λ x y h. Prim.search (rules, common_steps) };
 }
 
 // A name that was tried, by its place in one of the two lists.
@@ -114,6 +111,8 @@ pub struct MemFiles {
 }
 
 impl MemFiles {
+    ghost use Rattle.cl_io.specs.MemoryStates.{failing_calls, calls_made, bytes_allowed, unread};
+
     /// Files that can be begun, names that can't, and how often `begin` can be told. The calls of `begin` and `read`
     /// whose numbers, counted from 1, are in `fail_calls` fail. No read crosses the place after `fail_at` bytes in all,
     /// and the next read there fails.
@@ -125,15 +124,12 @@ impl MemFiles {
         fail_calls: List<u64>,
         fail_at: Option<u64>,
     ) -> Result<MemFiles, NoMemory>
-        ensures content { IfOk result (λ made. ⟦<MemFiles as Files>⟧.content made ≡ content_of files) }
-        ensures there { IfOk result (λ made. ⟦<MemFiles as Files>⟧.there made ≡ has_file files) }
-        ensures knows { IfOk result (λ made. ⟦<MemFiles as Files>⟧.knows made ≡ is_known files missing) }
-        ensures tried { IfOk result (λ made. ⟦<MemFiles as Files>⟧.tried made ≡ Some []) }
-        ensures taken { IfOk result (λ made. ⟦<MemFiles as Files>⟧.taken made ≡ Some []) }
-        ensures places { IfOk result (λ made. ⟦<MemFiles as Files>⟧.places made ≡ begins) }
-        ensures faults { IfOk result (λ made. ⟦<MemFiles as Files>⟧.faults made ≡ 0) }
-        ensures steady { IfOk result (λ made.
-            ⟦<MemFiles as Files>⟧.steady made ≡ (is_empty fail_calls && is_none fail_at)) }
+        ensures state { IfOk result (λ made. ⟦<MemFiles as Files>⟧.state made
+            ≡ fresh_state files missing begins (is_empty fail_calls && is_none fail_at)) }
+        ensures failing { IfOk result (λ made. failing_calls made ≡ fail_calls) }
+        ensures calls { IfOk result (λ made. calls_made made ≡ 0) }
+        ensures allowed { IfOk result (λ made. bytes_allowed made ≡ fail_at) }
+        ensures next { IfOk result (λ made. unread made ≡ []) }
     {
         Ok(MemFiles {
             files,
@@ -147,14 +143,16 @@ impl MemFiles {
 
     /// How often they failed.
     pub fn faults(&self) -> u64
-        ensures { result ≡ ⟦<MemFiles as Files>⟧.faults self.now }
+        ensures { result ≡ (⟦<MemFiles as Files>⟧.state self.now).faults }
     {
         self.script.faults
     }
 
     // How many bytes the next read may give at most, which is 0 only where it fails.
     fn allowed(&self) -> u64
-        ensures { self.now.fail_at ≡ None → 0 < result }
+        ensures limited { IfSome self.now.fail_at
+            (λ place. (place < 2 ^ 64) × (result ≡ place - self.now.given)) }
+        ensures unlimited { self.now.fail_at ≡ None → result ≡ u64.MAX }
     {
         match self.fail_at {
             Some(place) => place.saturating_sub(self.given),
@@ -164,28 +162,40 @@ impl MemFiles {
 }
 
 impl Files for MemFiles {
-    ghost use Rattle.cl_io.specs.Holding.{file_content, names_tried, entries_taken, knows_name, places_left, file_faults, is_steady, file_is_there};
-    ghost use Rattle.cl_io.specs.Truthful.{truthful_files};
+    ghost use Rattle.std.specs.Prelude.{◌≡◌, ◌≤◌, ◌<◌, ◌-◌, ◌&&◌, ℕ, false, [], ◌∷◌, ◌++◌, Some, IsTrue, IfOk, is_some, nat_lt, length, take, OnOk, OnErr};
+    ghost use Rattle.cl_types.specs.Causes.{Rose};
+    ghost use Rattle.cl_io.specs.Files.{Adds, begun_entry, Lasts, Tries, Reads, ReadsNothing, Succeeds};
+    ghost use Rattle.cl_io.specs.Sink.{Lowers};
+    ghost use Rattle.cl_io.specs.MemoryStates.{files_state, failing_calls, calls_made, bytes_allowed, unread, Counted, Fails};
+    ghost use Rattle.cl_io.specs.MemoryLaws.{truthful_files};
 
-    ghost content = { file_content };
-
-    ghost tried = { names_tried };
-
-    ghost taken = { entries_taken };
-
-    ghost knows = { knows_name };
-
-    ghost places = { places_left };
-
-    ghost faults = { file_faults };
-
-    ghost steady = { is_steady };
-
-    ghost there = { file_is_there };
+    ghost state = { files_state };
 
     ghost truthful = { truthful_files };
 
-    fn begin(&mut self, name: &Text) -> Result<(), Failed> {
+    fn begin(&mut self, name: &Text) -> Result<(), Failed>
+        ensures lasts { Lasts (files_state self.old) (files_state self.new) }
+        ensures tries { Tries name.now (files_state self.old) (files_state self.new) }
+        ensures begun { OnOk result
+            (Adds (files_state self.old).taken (begun_entry name.now ∷ []) (files_state self.new).taken) }
+        ensures not_begun { OnErr result (Adds (files_state self.old).taken [] (files_state self.new).taken) }
+        ensures cause { OnErr result (Rose (files_state self.old).faults (files_state self.new).faults) }
+        ensures succeeds { IsTrue (files_state self.old).steady
+            → IsTrue ((files_state self.old).there name.now)
+            → Succeeds result (files_state self.old).faults (files_state self.new).faults }
+
+        // When it fails, what is read next, and whether it is told.
+        ensures counted { Counted (failing_calls self.old) (failing_calls self.new)
+            (calls_made self.old) (calls_made self.new) }
+        ensures fails { Fails result (failing_calls self.old) (calls_made self.new)
+            ((files_state self.old).there name.now ≡ false) }
+        ensures allowed { bytes_allowed self.new ≡ bytes_allowed self.old }
+        ensures next { OnOk result (unread self.new ≡ (files_state self.old).content name.now) }
+        ensures no_next { OnErr result (unread self.new ≡ unread self.old) }
+        ensures places { (files_state self.new).places ≡ (files_state self.old).places - 1 }
+        ensures told { is_some (files_state self.new).tried ≡ (is_some (files_state self.old).tried
+            && nat_lt 0 (files_state self.old).places && (files_state self.old).knows name.now) }
+    {
         let fails = self.script.fails();
         let file = file_at(self.files.as_slice(), name);
         let missing = name_at(self.missing.as_slice(), name);
@@ -197,7 +207,26 @@ impl Files for MemFiles {
         Ok(())
     }
 
-    fn read(&mut self, buf: &mut [u8]) -> Result<usize, Failed> {
+    fn read(&mut self, buf: &mut [u8]) -> Result<usize, Failed>
+        requires { 0 < length buf.old }
+        ensures lasts { Lasts (files_state self.old) (files_state self.new) }
+        ensures count { IfOk result (λ n. n ≤ length buf.old) }
+        ensures reads { IfOk result (λ n. Reads (take n buf.new) (files_state self.old) (files_state self.new)) }
+        ensures reads_nothing { OnErr result (ReadsNothing (files_state self.old) (files_state self.new)) }
+        ensures cause { OnErr result (Rose (files_state self.old).faults (files_state self.new).faults) }
+        ensures succeeds { IsTrue (files_state self.old).steady
+            → Succeeds result (files_state self.old).faults (files_state self.new).faults }
+
+        // When it fails, and what it gives.
+        ensures counted { Counted (failing_calls self.old) (failing_calls self.new)
+            (calls_made self.old) (calls_made self.new) }
+        ensures fails { Fails result (failing_calls self.old) (calls_made self.new)
+            (bytes_allowed self.old ≡ Some 0) }
+        ensures allowed { IfOk result (λ n. Lowers (bytes_allowed self.old) n (bytes_allowed self.new)) }
+        ensures still_allowed { OnErr result (bytes_allowed self.new ≡ bytes_allowed self.old) }
+        ensures gives { IfOk result (λ n. unread self.old ≡ take n buf.new ++ unread self.new) }
+        ensures gives_nothing { OnErr result (unread self.new ≡ unread self.old) }
+    {
         if self.script.fails() {
             return Err(self.script.fail());
         }

@@ -1,4 +1,4 @@
-ghost use Rattle.std.specs.Prelude.{◌≡◌, ◌≤◌, ◌<◌, ◌+◌, [], Some, IfOk, vec_len, vec_capacity};
+ghost use Rattle.std.specs.Prelude.{◌≡◌, ◌≤◌, ◌<◌, ◌+◌, Some, IfOk, vec_len, vec_capacity};
 
 use crate::files::Failed;
 use crate::script::Script;
@@ -18,7 +18,8 @@ pub struct MemSink {
 }
 
 impl MemSink {
-    ghost use Rattle.cl_io.specs.Memory.{is_empty};
+    ghost use Rattle.cl_io.specs.Memory.{is_empty, fresh_sink};
+    ghost use Rattle.cl_io.specs.MemoryStates.{failing_writes, writes_made, piece_of};
 
     /// A sink with room for so many bytes, which takes at most `piece` bytes at once. The writes whose numbers, counted
     /// from 1, are in `fail_calls` fail, and so does each one where there is no room.
@@ -29,10 +30,11 @@ impl MemSink {
         room: u64,
     ) -> Result<MemSink, NoMemory>
         requires { 1 ≤ piece }
-        ensures written { IfOk result (λ made. ⟦<MemSink as Sink>⟧.written made ≡ Some []) }
-        ensures free { IfOk result (λ made. ⟦<MemSink as Sink>⟧.free made ≡ Some room) }
-        ensures faults { IfOk result (λ made. ⟦<MemSink as Sink>⟧.faults made ≡ 0) }
-        ensures steady { IfOk result (λ made. ⟦<MemSink as Sink>⟧.steady made ≡ is_empty fail_calls) }
+        ensures state { IfOk result (λ made. ⟦<MemSink as Sink>⟧.state made
+            ≡ fresh_sink room (is_empty fail_calls)) }
+        ensures failing { IfOk result (λ made. failing_writes made ≡ fail_calls) }
+        ensures calls { IfOk result (λ made. writes_made made ≡ 0) }
+        ensures piece { IfOk result (λ made. piece_of made ≡ piece) }
     {
         Ok(MemSink {
             bytes: Vec::with_capacity(alloc, room as usize)?,
@@ -44,35 +46,53 @@ impl MemSink {
 
     /// The bytes that it took.
     pub fn written(&self) -> &[u8]
-        ensures { ⟦<MemSink as Sink>⟧.written self.now ≡ Some result.now }
+        ensures { (⟦<MemSink as Sink>⟧.state self.now).written ≡ Some result.now }
     {
         self.bytes.as_slice()
     }
 
     /// How often it failed.
     pub fn faults(&self) -> u64
-        ensures { result ≡ ⟦<MemSink as Sink>⟧.faults self.now }
+        ensures { result ≡ (⟦<MemSink as Sink>⟧.state self.now).faults }
     {
         self.script.faults
     }
 }
 
 impl Sink for MemSink {
-    ghost use Rattle.cl_io.specs.Holding.{bytes_written, sink_faults, is_steady_sink, room_left};
+    ghost use Rattle.std.specs.Prelude.{ℕ, ◌-◌, ◌^◌, min, length, IsTrue, IfSome, OnErr};
+    ghost use Rattle.cl_types.specs.Causes.{Rose};
+    ghost use Rattle.cl_io.specs.Files.{Succeeds};
+    ghost use Rattle.cl_io.specs.Sink.{Endures, Writes, WritesNothing};
+    ghost use Rattle.cl_io.specs.MemoryStates.{sink_state, failing_writes, writes_made, piece_of, Counted, Fails};
 
-    ghost written = { bytes_written };
+    ghost state = { sink_state };
 
-    ghost faults = { sink_faults };
+    fn write(&mut self, bytes: &[u8]) -> Result<usize, Failed>
+        requires { 0 < length bytes.now }
+        ensures endures { Endures (sink_state self.old) (sink_state self.new) }
+        ensures writes { IfOk result (λ n. Writes bytes.now n (sink_state self.old) (sink_state self.new)) }
+        ensures writes_nothing { OnErr result (WritesNothing (sink_state self.old) (sink_state self.new)) }
+        ensures cause { OnErr result (Rose (sink_state self.old).faults (sink_state self.new).faults) }
+        ensures succeeds { IsTrue (sink_state self.old).steady → IfSome (sink_state self.old).free
+            (λ room. 0 < room → Succeeds result (sink_state self.old).faults (sink_state self.new).faults) }
 
-    ghost steady = { is_steady_sink };
-
-    ghost free = { room_left };
-
-    fn write(&mut self, bytes: &[u8]) -> Result<usize, Failed> {
+        // When it fails, and how much it takes.
+        ensures counted { Counted (failing_writes self.old) (failing_writes self.new)
+            (writes_made self.old) (writes_made self.new) }
+        ensures fails { Fails result (failing_writes self.old) (writes_made self.new)
+            ((sink_state self.old).free ≡ Some 0) }
+        ensures exact { IfOk result (λ n. IfSome (sink_state self.old).free
+            (λ room. n ≡ min (min (length bytes.now) room) (piece_of self.old))) }
+        ensures piece { piece_of self.new ≡ piece_of self.old }
+    {
         let count = (bytes.len() as u64)
             .min(self.room)
             .min(u64::from(self.piece));
-        if self.script.fails() || count == 0 {
+        if self.script.fails() {
+            return Err(self.script.fail());
+        }
+        if count == 0 {
             return Err(self.script.fail());
         }
         if self

@@ -1,5 +1,5 @@
 ghost use Rattle.std.specs.Prelude.{◌≡◌, ◌↔◌, ◌+◌, ◌-◌, ◌^◌, ◌<◌, ◌≤◌, [], IsTrue, Contains};
-ghost use Rattle.cl_io.specs.Causes.{Rose};
+ghost use Rattle.cl_types.specs.Causes.{Rose};
 
 use crate::files::Failed;
 use cl_types::List;

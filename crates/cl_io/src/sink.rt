@@ -1,55 +1,33 @@
-ghost use Rattle.std.specs.Prelude.{◌≡◌, ℕ, ◌<◌, ◌≤◌, Bool, IsTrue, Option, List, length, take, IsOk, IfSome, IfOk, OnErr};
-ghost use Rattle.cl_io.specs.Causes.{Rose};
-ghost use Rattle.cl_io.specs.Sink.{Lowers, Takes};
-ghost use Rattle.cl_io.specs.Telling.{Adds};
+ghost use Rattle.std.specs.Prelude.{◌≡◌, ℕ, ◌<◌, ◌≤◌, IsTrue, List, length, IfSome, IfOk, OnErr};
+ghost use Rattle.cl_types.specs.Causes.{Rose};
+ghost use Rattle.cl_io.specs.Files.{Succeeds};
+ghost use Rattle.cl_io.specs.Sink.{SinkState, Endures, Takes, Writes, WritesNothing};
 
 use crate::files::Failed;
 
 /// A place that takes bytes one after another.
 pub trait Sink {
-    /// The bytes that it took, where they are told.
-    ghost written: { Self → Option (List ℕ) };
-
-    /// How often it failed. It stands still at the greatest number of 64 bits.
-    ghost faults: { Self → ℕ };
-
-    /// Whether no write fails while there is room that is told.
-    ghost steady: { Self → Bool };
-
-    /// How many more bytes it has room for, where that is told.
-    ghost free: { Self → Option ℕ };
+    /// What it took, where it tells that, how much more it has room for, and how often it failed.
+    ghost state: { Self → SinkState };
 
     /// Takes the first bytes of these, at least one, and answers how many.
     fn write(&mut self, bytes: &[u8]) -> Result<usize, Failed>
         requires { 0 < length bytes.now }
-        ensures some { IfOk result (λ n. 0 < n) }
-        ensures at_most { IfOk result (λ n. n ≤ length bytes.now) }
-        ensures written { IfOk result (λ n. Adds (written self.old) (take n bytes.now) (written self.new)) }
-        ensures not_written { OnErr result (written self.new ≡ written self.old) }
-        ensures free { IfOk result (λ n. Lowers (free self.old) n (free self.new)) }
-        ensures not_lower { OnErr result (Lowers (free self.old) 0 (free self.new)) }
-
-        ensures later { faults self.old ≤ faults self.new }
-        ensures cause { OnErr result (Rose (faults self.old) (faults self.new)) }
-
-        ensures succeeds { IsTrue (steady self.old)
-            → IfSome (free self.old) (λ room. 0 < room → IsOk result) }
-        ensures faultless { IsTrue (steady self.old)
-            → IfSome (free self.old) (λ room. 0 < room → faults self.new ≡ faults self.old) }
-        ensures steady { IsTrue (steady self.old) → IsTrue (steady self.new) };
+        ensures endures { Endures (state self.old) (state self.new) }
+        ensures writes { IfOk result (λ n. Writes bytes.now n (state self.old) (state self.new)) }
+        ensures writes_nothing { OnErr result (WritesNothing (state self.old) (state self.new)) }
+        ensures cause { OnErr result (Rose (state self.old).faults (state self.new).faults) }
+        ensures succeeds { IsTrue (state self.old).steady → IfSome (state self.old).free
+            (λ room. 0 < room → Succeeds result (state self.old).faults (state self.new).faults) };
 }
 
-/// Appends the bytes. After a failure a prefix of them stands there. It takes no memory.
+/// Appends the bytes. After a failure a prefix of them stands there. It does not allocate.
 pub fn put<O: Sink>(out: &mut O, bytes: &[u8]) -> Result<(), Failed>
-    ensures takes { Takes bytes.now result
-        (O.written out.old) (O.written out.new) (O.free out.old) (O.free out.new) }
-    ensures later { O.faults out.old ≤ O.faults out.new }
-    ensures cause { OnErr result (Rose (O.faults out.old) (O.faults out.new)) }
-    ensures succeeds { IsTrue (O.steady out.old)
-        → IfSome (O.free out.old) (λ room. length bytes.now ≤ room → IsOk result) }
-    ensures faultless { IsTrue (O.steady out.old)
-        → IfSome (O.free out.old) (λ room. length bytes.now ≤ room → O.faults out.new ≡ O.faults out.old) }
-    ensures steady { IsTrue (O.steady out.old) → IsTrue (O.steady out.new) }
+    ensures endures { Endures (O.state out.old) (O.state out.new) }
+    ensures takes { Takes bytes.now result (O.state out.old) (O.state out.new) }
+    ensures cause { OnErr result (Rose (O.state out.old).faults (O.state out.new).faults) }
+    ensures succeeds { IsTrue (O.state out.old).steady → IfSome (O.state out.old).free
+        (λ room. length bytes.now ≤ room → Succeeds result (O.state out.old).faults (O.state out.new).faults) }
 {
     let mut rest = bytes;
     while !rest.is_empty() {

@@ -1,4 +1,4 @@
-ghost use Rattle.std.specs.Prelude.{◌≡◌, None, [], false};
+ghost use Rattle.std.specs.Prelude.{◌≡◌};
 
 use crate::files::{Failed, Files};
 use cl_types::Text;
@@ -22,7 +22,7 @@ pub struct StdFiles<R: std::rt::Files + Input> {
 
 impl<R: std::rt::Files + Input> StdFiles<R> {
     pub fn new(rt: R) -> StdFiles<R>
-        ensures { ⟦<StdFiles<R> as Files>⟧.faults result ≡ 0 }
+        ensures { (⟦<StdFiles<R> as Files>⟧.state result).faults ≡ 0 }
     {
         StdFiles {
             rt,
@@ -33,23 +33,9 @@ impl<R: std::rt::Files + Input> StdFiles<R> {
 }
 
 impl<R: std::rt::Files + Input> Files for StdFiles<R> {
-    ghost content = { λ _ _. [] };
+    ghost use Rattle.cl_io.specs.MemoryStates.{outer_files};
 
-    ghost tried = { λ _. None };
-
-    ghost taken = { λ _. None };
-
-    ghost knows = { λ _ _. false };
-
-    ghost places = { λ _. 0 };
-
-    ghost use Rattle.cl_io.specs.Holding.{outer_file_faults};
-
-    ghost faults = { outer_file_faults };
-
-    ghost steady = { λ _. false };
-
-    ghost there = { λ _ _. false };
+    ghost state = { outer_files };
 
     ghost truthful = { λ _. tt };
 

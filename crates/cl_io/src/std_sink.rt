@@ -1,4 +1,4 @@
-ghost use Rattle.std.specs.Prelude.{◌≡◌, None, false};
+ghost use Rattle.std.specs.Prelude.{◌≡◌};
 
 use crate::files::Failed;
 use crate::sink::Sink;
@@ -13,22 +13,16 @@ pub struct StdSink<W> {
 
 impl<W: Write> StdSink<W> {
     pub fn new(to: W) -> StdSink<W>
-        ensures { ⟦<StdSink<W> as Sink>⟧.faults result ≡ 0 }
+        ensures { (⟦<StdSink<W> as Sink>⟧.state result).faults ≡ 0 }
     {
         StdSink { to, faults: 0 }
     }
 }
 
 impl<W: Write> Sink for StdSink<W> {
-    ghost written = { λ _. None };
+    ghost use Rattle.cl_io.specs.MemoryStates.{outer_sink};
 
-    ghost use Rattle.cl_io.specs.Holding.{outer_sink_faults};
-
-    ghost faults = { outer_sink_faults };
-
-    ghost steady = { λ _. false };
-
-    ghost free = { λ _. None };
+    ghost state = { outer_sink };
 
     fn write(&mut self, bytes: &[u8]) -> Result<usize, Failed> {
         match self.to.write(bytes) {

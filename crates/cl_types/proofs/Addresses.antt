@@ -116,7 +116,7 @@ pub record Sides (address len : List ℕ) (p : Block) : Type 0 where
   pub octet : IsOctet len p.len
   pub base : p.base ≡ cleared a p.len
 
-width_small : (a : Addr) → width_of a < 256
+pub width_small : (a : Addr) → width_of a < 256
 width_small (V4 n) = omega arith
 width_small (V6 n) = omega arith
 

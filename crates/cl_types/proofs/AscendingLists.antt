@@ -1,45 +1,15 @@
 -- What a search finds in an ascending list, and what an edit at that place does.
-use Rattle.std.proofs.Common.{◌≡◌, ℕ, zero, suc, ◌+◌, ◌<◌, ◌≤◌, List, [], ◌∷◌, length, get_or, set, Some, None, Result, Ok, Err, IfOk, IfErr, refl, sym, ap, ◌∙◌, arith}
-use Rattle.std.specs.List.{insert, AllWithin, HoldsAt}
+use Rattle.std.proofs.Common.{◌≡◌, ℕ, zero, suc, ◌+◌, ◌<◌, List, [], ◌∷◌, length, get_or, Result, Ok, Err, IfOk, IfErr, refl, sym, ◌∙◌, arith}
+use Rattle.std.specs.List.{HoldsAt}
 use Rattle.std.specs.List.Sorted.{IsSearchInRange, IsBinarySearchResult, IsSortedBy}
 use Rattle.std.specs.declared.cmp.Ordering.{Ordering}
-use Rattle.std.specs.declared.cmp.Ordering.TheVariants.{Less, Equal, Greater}
+use Rattle.std.specs.declared.cmp.Ordering.TheVariants.{Less, Equal}
 use Rattle.std.specs.Cmp.{IsTotalOrder}
 use Rattle.std.specs.Ordering.{is_lt}
 use Rattle.std.proofs.lemmas.List.Sorted.{searchable_from_sorted}
 use Rattle.std.proofs.lemmas.Cmp.{alike_right}
 use Rattle.std.proofs.lemmas.List.Elements.{All-from_recursion}
-use Rattle.cl_types.specs.Ascending.{Ascends, found, put, IsPlace, IsGap}
-
-module _ {T : Type 0} (at : T → Ordering) where
-  -- the item found at a place is the one that stands there
-  pub found_at_place : (xs : List T) (i : ℕ) (d : T) → i < length xs → HoldsAt (λ y. at y ≡ Equal) xs i → AllWithin (λ y. at y ≡ Less) xs 0 i → found at xs ≡ Some (get_or xs i d)
-  found_at_place [] i d within here before = absurd (omega arith)
-  found_at_place (x ∷ xs) zero d within here before = rw (here d) refl
-  found_at_place (x ∷ xs) (suc i) d within here before =
-      rw (before 0 d (omega arith) (omega arith)) (found_at_place xs i d (omega arith) here (λ k e lo hi. before (suc k) e (omega arith) (omega arith)))
-
-  -- where there is a gap, nothing is found
-  pub found_in_gap : (xs : List T) (i : ℕ) → i ≤ length xs → AllWithin (λ y. at y ≡ Less) xs 0 i → AllWithin (λ y. at y ≡ Greater) xs i (length xs) → found at xs ≡ None
-  found_in_gap [] i within before after = refl
-  found_in_gap (x ∷ xs) zero within before after = rw (after 0 x (omega arith) (omega arith)) refl
-  found_in_gap (x ∷ xs) (suc i) within before after =
-      rw (before 0 x (omega arith) (omega arith)) (found_in_gap xs i (omega arith) (λ k e lo hi. before (suc k) e (omega arith) (omega arith)) (λ k e lo hi. after (suc k) e (omega arith) (omega arith)))
-
-  -- putting at a place writes over it
-  pub put_at_place : (x : T) (xs : List T) (i : ℕ) → i < length xs → HoldsAt (λ y. at y ≡ Equal) xs i → AllWithin (λ y. at y ≡ Less) xs 0 i → put at x xs ≡ set xs i x
-  put_at_place x [] i within here before = absurd (omega arith)
-  put_at_place x (y ∷ ys) zero within here before = rw (here x) refl
-  put_at_place x (y ∷ ys) (suc i) within here before =
-      rw (before 0 y (omega arith) (omega arith)) (ap (λ zs. y ∷ zs) (put_at_place x ys i (omega arith) here (λ k e lo hi. before (suc k) e (omega arith) (omega arith))))
-
-  -- putting in a gap inserts there
-  pub put_in_gap : (x : T) (xs : List T) (i : ℕ) → i ≤ length xs → AllWithin (λ y. at y ≡ Less) xs 0 i → AllWithin (λ y. at y ≡ Greater) xs i (length xs) → put at x xs ≡ insert xs i x
-  put_in_gap x [] zero within before after = refl
-  put_in_gap x [] (suc i) within before after = absurd (omega arith)
-  put_in_gap x (y ∷ ys) zero within before after = rw (after 0 y (omega arith) (omega arith)) refl
-  put_in_gap x (y ∷ ys) (suc i) within before after =
-      rw (before 0 y (omega arith) (omega arith)) (ap (λ zs. y ∷ zs) (put_in_gap x ys i (omega arith) (λ k e lo hi. before (suc k) e (omega arith) (omega arith)) (λ k e lo hi. after (suc k) e (omega arith) (omega arith))))
+use Rattle.cl_types.specs.Ascending.{Ascends, IsPlace, IsGap}
 
 module _ {T K : Type 0} (key : T → K) (cmp : K → K → Ordering) where
   -- of two items the first has the lesser key

@@ -1,18 +1,21 @@
 -- Spans of addresses as blocks.
 use Rattle.std.proofs.Common.{◌≡◌, ℕ, ◌+◌, ◌-◌, ◌*◌, ◌/◌, ◌%◌, ◌^◌, ◌<◌, ◌≤◌, List, [], map, get_or, ◌↔◌, refl, sym, ap, ◌∙◌, subst, ⊎_elim, arith}
-use Rattle.std.specs.List.{All, Any, AllPairs}
+use Rattle.std.specs.List.{All, Any, AllPairs, Contains}
 use Rattle.std.proofs.lemmas.Nat.{shl-shr}
 use Rattle.std.proofs.lemmas.Bool.{cases_lt}
+use Rattle.std.proofs.lemmas.List.{get_or_default}
+use Rattle.std.proofs.Math.Nat.{mod-eq-sub-div-mul, div-mul-le_self, mul-mod_left}
 use Rattle.std.proofs.lemmas.List.Elements.{All-map}
 use Rattle.cl_types.specs.declared.addr.Addr.{Addr}
 use Rattle.cl_types.specs.declared.addr.Addr.TheVariants.{V4, V6}
 use Rattle.cl_types.specs.declared.blocks.Span.{Span}
 use Rattle.cl_types.specs.Addr.{width_of, number_of, with_number}
-use Rattle.cl_types.specs.Prefix.{Block, Holds}
-use Rattle.cl_types.specs.Blocks.{Remains, shorter, IsLargest, AddressesPrecede, Within, wider, Overshoots, AreSpansOf, AppendsSpansOf, span_of, block_at, FitsWidth}
-use Rattle.cl_types.proofs.SpanBounds.{least_within, within_high, ends_within, index_below, wider_below, least_wider, fits_wider}
-use Rattle.cl_types.proofs.Remaining.{number-with_number, width-with_number, with_own_number, within_from_holds}
+use Rattle.cl_types.specs.Prefix.{Block, IsBlock, Holds, cleared}
+use Rattle.cl_types.specs.Blocks.{Remains, shorter, IsLargest, IsMaximalBlock, AddressesPrecede, Within, wider, Overshoots, AreSpansOf, AppendsSpansOf, span_of, block_at, FitsWidth}
+use Rattle.cl_types.proofs.SpanBounds.{least_within, within_high, ends_within, index_below, wider_below, least_wider, fits_wider, shr_chain}
+use Rattle.cl_types.proofs.Remaining.{number-with_number, width-with_number, with_own_number, within_from_holds, holds_from_within, block_len}
 use Rattle.cl_types.proofs.Spans.{all_spans}
+use Rattle.cl_types.proofs.MaximalSpans.{maximal_found, contains_map, all_contained}
 use Rattle.cl_types.proofs.Mapped.{any_map, any_unmap, pairs_map}
 
 -- the other half of the wider span has a number, which is not in this one
@@ -81,6 +84,49 @@ largest_block p es s f o some =
       outside = o.2;
     }
 
+-- ---- blocks as spans
+
+low_bits : (w h k : ℕ) → h ≤ w → k * 2 ^ h % 2 ^ (w - (w - h)) ≡ 0
+low_bits w h k low =
+    let free : w - (w - h) ≡ h = omega arith in
+    ap (λ m. k * 2 ^ h % 2 ^ m) free ∙ mul-mod_left k (2 ^ h)
+
+block_form : (base : Addr) (s : Span) → s.height ≤ width_of base → IsBlock (block_at base s).base (block_at base s).len
+block_form (V4 m) s low = (omega arith, low_bits 32 s.height s.index low)
+block_form (V6 m) s low = (omega arith, low_bits 128 s.height s.index low)
+
+-- the bits past the length are zero
+whole_number : (w len n : ℕ) → n % 2 ^ (w - len) ≡ 0 → n / 2 ^ (w - len) * 2 ^ (w - len) ≡ n
+whole_number w len n zero = omega (arith, mod-eq-sub-div-mul n (2 ^ (w - len)), div-mul-le_self n (2 ^ (w - len)))
+
+block_at_span : (base : Addr) (b : Block) → width_of b.base ≡ width_of base → IsBlock b.base b.len → block_at base (span_of b) ≡ b
+block_at_span base b family form =
+    let len : width_of base - (width_of b.base - b.len) ≡ b.len = omega (arith, family, block_len b.base b.len form) in
+    let number = block_number b.base b.len form in
+    let whole = ap (with_number base) number ∙ with_own_number base b.base (sym family) in
+    (λ i. record { base = whole i; len = len i })
+  where
+    block_number : (a : Addr) (len : ℕ) → IsBlock a len → number_of a / 2 ^ (width_of a - len) * 2 ^ (width_of a - len) ≡ number_of a
+    block_number (V4 n) len form = whole_number 32 len n form.1
+    block_number (V6 n) len form = whole_number 128 len n form.1
+
+-- an address of the block one bit shorter is in the wider span
+shorter_bits_within : (w len n m : ℕ) → 0 < len → len ≤ w → m / 2 ^ (w - (len - 1)) ≡ n / 2 ^ (w - (len - 1)) * 2 ^ (w - (len - 1)) / 2 ^ (w - (len - 1)) → m / 2 ^ (w - len + 1) ≡ n / 2 ^ (w - len) / 2
+shorter_bits_within w len n m some low e =
+    let free : w - (len - 1) ≡ w - len + 1 = omega arith in
+    let one : w - len + 1 - (w - len) ≡ 1 = omega arith in
+    ap (λ k. m / 2 ^ k) (sym free) ∙ e ∙ shl-shr (n / 2 ^ (w - (len - 1))) (w - (len - 1)) ∙ ap (λ k. n / 2 ^ k) free
+    ∙ shr_chain n (w - len) (w - len + 1) (omega arith) ∙ ap (λ k. n / 2 ^ (w - len) / 2 ^ k) one
+
+shorter_within : (b : Block) (a : Addr) → IsBlock b.base b.len → 0 < b.len → Holds (shorter b) a → Within (wider (span_of b)) (number_of a) × (width_of a ≡ width_of b.base)
+shorter_within b a form some held = of_base b.base b.len form some held.family held.bits
+  where
+    of_base : (base : Addr) (len : ℕ) → IsBlock base len → 0 < len → width_of a ≡ width_of (cleared base (len - 1))
+        → number_of a / 2 ^ (width_of (cleared base (len - 1)) - (len - 1)) ≡ number_of (cleared base (len - 1)) / 2 ^ (width_of (cleared base (len - 1)) - (len - 1))
+        → (number_of a / 2 ^ (width_of base - len + 1) ≡ number_of base / 2 ^ (width_of base - len) / 2) × (width_of a ≡ width_of base)
+    of_base (V4 n) len form some family bits = (shorter_bits_within 32 len n (number_of a) some form.0 bits, family)
+    of_base (V6 n) len form some family bits = (shorter_bits_within 128 len n (number_of a) some form.0 bits, family)
+
 module _ (p : Block) (es : List Block) (spans : List Span) (whole : FitsWidth (width_of p.base) (span_of p)) (are : AreSpansOf (λ n. Remains p es (with_number p.base n)) (span_of p) spans) where
   pub fit_spans : All (FitsWidth (width_of p.base)) spans
   fit_spans = λ k d h.
@@ -110,9 +156,33 @@ module _ (p : Block) (es : List Block) (spans : List Span) (whole : FitsWidth (w
         subst (Remains p es) own (are.within (number_of a) (found.0, found.1, found.2, found.3, found.4.0))),
   )
 
-  pub largest_blocks : All (λ b. 0 < b.len → IsLargest p es b) (map (block_at p.base) spans)
-  largest_blocks = All-map (λ (b : Block). 0 < b.len → IsLargest p es b) (block_at p.base) spans
-      (λ k d h. largest_block p es (get_or spans k d) (fit_spans k d h) (are.maximal k d h))
+  maximal_each : All (IsMaximalBlock p es) (map (block_at p.base) spans)
+  maximal_each = All-map (IsMaximalBlock p es) (block_at p.base) spans
+      (λ k d h. record {
+        form = block_form p.base (get_or spans k d) (fit_spans k d h).low;
+        inside = λ a held. remains_at (get_or spans k d) (λ n w. are.within n (k, get_or spans k d, h, get_or_default spans k (get_or spans k d) d h, w)) a (block_holds p.base a (get_or spans k d) (fit_spans k d h).low held);
+        largest = largest_block p es (get_or spans k d) (fit_spans k d h) (are.maximal k d h);
+      })
+    where
+      remains_at : (s : Span) → ((n : ℕ) → Within s n → Remains p es (with_number p.base n)) → (a : Addr) → Within s (number_of a) × (width_of a ≡ width_of p.base) → Remains p es a
+      remains_at s has a within = subst (Remains p es) (with_own_number p.base a (sym within.1)) (has (number_of a) within.0)
+
+  maximal_found_block : (b : Block) → IsMaximalBlock p es b → Contains (map (block_at p.base) spans) b
+  maximal_found_block b is =
+      let family : width_of b.base ≡ width_of p.base = (is.inside b.base (record { family = refl; bits = refl })).0.family in
+      let t = span_of b in
+      let has : (n : ℕ) → Within t n → Remains p es (with_number p.base n) = (λ n w. is.inside (with_number p.base n) (holds_from_within b p.base n family w)) in
+      contains_map (block_at p.base) spans t b (block_at_span p.base b family is.form)
+      (maximal_found (λ n. Remains p es (with_number p.base n)) (span_of p) spans are t
+      (within_from_holds p p.base (t.index * 2 ^ t.height) (has (t.index * 2 ^ t.height) (least_within t)).0)
+      has
+      (λ low.
+      let o = is.largest (omega (arith, family)) in
+      let near = shorter_within b o.address is.form (omega (arith, family)) o.held in
+      (number_of o.address, near.0, λ r. o.outside (subst (Remains p es) (with_own_number p.base o.address (sym (near.1 ∙ family))) r))))
+
+  pub maximal_blocks : (b : Block) → IsMaximalBlock p es b ↔ Contains (map (block_at p.base) spans) b
+  maximal_blocks b = (maximal_found_block b, all_contained (IsMaximalBlock p es) (map (block_at p.base) spans) b maximal_each)
 
   pub ascending_blocks : AllPairs AddressesPrecede (map (block_at p.base) spans)
   ascending_blocks = pairs_map (block_at p.base) spans (span_of p) AddressesPrecede

@@ -16,7 +16,7 @@ use Rattle.cl_types.specs.declared.reading.Family.TheVariants.{Dotted, Colons}
 use Rattle.cl_types.specs.declared.writing.ZeroRun.{ZeroRun}
 use Rattle.cl_types.specs.Addr.{width_of, number_of}
 use Rattle.cl_types.specs.Prefix.{Block, IsBlock, cleared}
-use Rattle.cl_types.specs.Reading.{separator_of, IsPart, IsParts, IsGroup, IsFull, IsShortened, IsDotted, IsAddress, IsPrefix}
+use Rattle.cl_types.specs.Reading.{separator_of, IsPart, IsParts, IsHexGroup, IsFull, IsShortened, IsDotted, IsAddress, IsPrefix}
 use Rattle.cl_types.specs.Written.{IsZeroRun, places, groups_of, zeros_at_front, longest_run, hexadecimal_groups, compressed, dotted, address_text, prefix_text}
 use Rattle.cl_types.proofs.Digits.{length-digits-le}
 
@@ -38,7 +38,7 @@ dotted_is_read n h = record {
 abbrev AreGroups : List ℕ → Type 0
 AreGroups gs = AllByRecursion (λ g. g < 65536) gs
 
-group_is_read : (g : ℕ) → g < 65536 → IsGroup (digits 16 false g) g
+group_is_read : (g : ℕ) → g < 65536 → IsHexGroup (digits 16 false g) g
 group_is_read g h =
     let numeral = digits_is_IsNumeral 16 false (omega arith) (omega arith) g (omega arith) in
     record {

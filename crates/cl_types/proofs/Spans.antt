@@ -7,7 +7,7 @@ use Rattle.std.proofs.lemmas.Bool.{cases_lt}
 use Rattle.std.proofs.lemmas.List.{get_or_append_left, get_or-append_right}
 use Rattle.std.proofs.lemmas.List.Elements.{All-nil, All-cons, All-append, All-weaker, Contains-append_left, Contains-append_right, Contains-append_cases}
 use Rattle.cl_types.specs.declared.blocks.Span.{Span}
-use Rattle.cl_types.specs.Blocks.{Within, wider, Overshoots, SpansPrecede, IsPart, AreSpansOf, AppendsSpansOf}
+use Rattle.cl_types.specs.Blocks.{Within, wider, Overshoots, SpansPrecede, IsSubspan, AreSpansOf, AppendsSpansOf}
 
 pub any_left : {X : Type 0} (P : X → Type 0) (xs ys : List X) → Any P xs → Any P (xs ++ ys)
 any_left P xs ys a = let c = Contains-append_left xs ys a.1 (a.0, a.2, a.3) in (c.0, a.1, c.1, c.2, a.4)
@@ -42,10 +42,10 @@ lower_half h k = record { height = h; index = k * 2 }
 abbrev upper_half : ℕ → ℕ → Span
 upper_half h k = record { height = h; index = k * 2 + 1 }
 
-pub lower_part : (s : Span) (h : ℕ) → s.height ≡ h + 1 → IsPart s (lower_half h s.index)
+pub lower_part : (s : Span) (h : ℕ) → s.height ≡ h + 1 → IsSubspan s (lower_half h s.index)
 lower_part s h e = λ n w. half_up s.height h n e ∙ omega (arith, w)
 
-pub upper_part : (s : Span) (h : ℕ) → s.height ≡ h + 1 → IsPart s (upper_half h s.index)
+pub upper_part : (s : Span) (h : ℕ) → s.height ≡ h + 1 → IsSubspan s (upper_half h s.index)
 upper_part s h e = λ n w. half_up s.height h n e ∙ omega (arith, w)
 
 in_half : (s : Span) (h n : ℕ) → s.height ≡ h + 1 → Within s n → Within (lower_half h s.index) n ⊎ Within (upper_half h s.index) n
@@ -60,8 +60,8 @@ lower_before_upper : (h k : ℕ) → SpansPrecede (lower_half h k) (upper_half h
 lower_before_upper h k = λ m n low high.
     ⊎_elim (λ less. less) (λ more. absurd (omega (arith, low, high, div_mono n m h more))) (cases_lt m n)
 
-pub parts_up : (whole half : Span) (spans : List Span) → IsPart whole half → All (IsPart half) spans → All (IsPart whole) spans
-parts_up whole half spans up parts = All-weaker (IsPart half) (IsPart whole) (λ s p n w. up n (p n w)) spans parts
+pub parts_up : (whole half : Span) (spans : List Span) → IsSubspan whole half → All (IsSubspan half) spans → All (IsSubspan whole) spans
+parts_up whole half spans up parts = All-weaker (IsSubspan half) (IsSubspan whole) (λ s p n w. up n (p n w)) spans parts
 
 pub join_spans : (P : ℕ → Type 0) (s : Span) (h : ℕ) (xs ys : List Span) → s.height ≡ h + 1 → AreSpansOf P (lower_half h s.index) xs → AreSpansOf P (upper_half h s.index) ys → AreSpansOf P s (xs ++ ys)
 join_spans P s h xs ys e low high = record {
@@ -70,7 +70,7 @@ join_spans P s h xs ys e low high = record {
       (λ v. any_right (λ t. Within t n) xs ys (high.found n v p))
       (in_half s h n e w);
   within = λ n a. ⊎_elim (low.within n) (high.within n) (any_cases (λ t. Within t n) xs ys a);
-  parts = All-append (IsPart s) xs ys (parts_up s (lower_half h s.index) xs (lower_part s h e) low.parts) (parts_up s (upper_half h s.index) ys (upper_part s h e) high.parts);
+  parts = All-append (IsSubspan s) xs ys (parts_up s (lower_half h s.index) xs (lower_part s h e) low.parts) (parts_up s (upper_half h s.index) ys (upper_part s h e) high.parts);
   lower = All-append (λ (t : Span). t.height ≤ s.height) xs ys
       (All-weaker (λ (t : Span). t.height ≤ h) (λ (t : Span). t.height ≤ s.height) (λ t le. omega arith) xs low.lower)
       (All-weaker (λ (t : Span). t.height ≤ h) (λ (t : Span). t.height ≤ s.height) (λ t le. omega arith) ys high.lower);
@@ -93,7 +93,7 @@ pub whole_span : (P : ℕ → Type 0) (s : Span) → ((n : ℕ) → Within s n �
 whole_span P s inside larger = record {
   found = λ n w p. (0, s, omega arith, refl, w);
   within = λ n a. inside n (only a.0 a.1 a.2 a.3 n a.4);
-  parts = All-cons (IsPart s) s [] (λ n w. w) (All-nil (IsPart s));
+  parts = All-cons (IsSubspan s) s [] (λ n w. w) (All-nil (IsSubspan s));
   lower = All-cons (λ (t : Span). t.height ≤ s.height) s [] (omega arith) (All-nil (λ (t : Span). t.height ≤ s.height));
   maximal = All-cons (λ (t : Span). Overshoots P (wider t)) s [] larger (All-nil (λ (t : Span). Overshoots P (wider t)));
   ascending = λ i j d below within. absurd (omega arith);

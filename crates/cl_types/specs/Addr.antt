@@ -1,5 +1,5 @@
 -- An address as a number of its family's width, and the order of addresses.
-use Rattle.std.specs.Prelude.{ℕ}
+use Rattle.std.specs.Prelude.{ℕ, Bool, false, ◌==◌}
 use Rattle.std.specs.declared.cmp.Ordering.{Ordering}
 use Rattle.std.specs.Ordering.{ordering_then, nat_cmp}
 use Rattle.std.specs.Cmp.{IsTotalOrder}
@@ -20,6 +20,12 @@ number_of (V6 n) = n
 abbrev pub with_number : Addr → ℕ → Addr
 with_number (V4 m) n = V4 n
 with_number (V6 m) n = V6 n
+
+-- two addresses are of one family and have one number
+abbrev pub addr_eq : Addr → Addr → Bool
+addr_eq (V4 a) (V4 b) = a == b
+addr_eq (V6 a) (V6 b) = a == b
+addr_eq _ _ = false
 
 -- IPv4 before IPv6, then by number
 abbrev pub addr_order : Addr → Addr → Ordering

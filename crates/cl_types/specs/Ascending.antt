@@ -1,10 +1,11 @@
--- Lists that ascend by a key, without a repeated key. Where each item is compared with a key that is
--- sought, `at` says how it compares: `Less` stands before the key, `Equal` at it, `Greater` after it.
-use Rattle.std.specs.Prelude.{◌≡◌, ℕ, ◌<◌, ◌≤◌, List, [], ◌∷◌, length, Option, Some, None}
+-- Lists that ascend by a key, without a repeated key: finite maps, and sets where an item is its own key.
+-- Where each item is compared with a key that is sought, `at` says how it compares: `Less` stands before the
+-- key, `Equal` at it, `Greater` after it.
+use Rattle.std.specs.Prelude.{◌≡◌, ℕ, ◌<◌, ◌≤◌, List, [], ◌∷◌, length, filter, not, Option, Some, None}
 use Rattle.std.specs.List.{AllByRecursion, AllWithin, HoldsAt}
 use Rattle.std.specs.declared.cmp.Ordering.{Ordering}
 use Rattle.std.specs.declared.cmp.Ordering.TheVariants.{Less, Equal, Greater}
-use Rattle.std.specs.Ordering.{match_ordering}
+use Rattle.std.specs.Ordering.{match_ordering, is_eq}
 
 -- each item's key is less than those of all items after it
 abbrev pub Ascends : {T K : Type 0} → (T → K) → (K → K → Ordering) → List T → Type 0
@@ -20,6 +21,19 @@ found at (x ∷ xs) = match_ordering (at x) (found at xs) (Some x) None
 abbrev pub put : {T : Type 0} → (T → Ordering) → T → List T → List T
 put at x [] = x ∷ []
 put at x (y ∷ ys) = match_ordering (at y) (y ∷ put at x ys) (x ∷ ys) (x ∷ y ∷ ys)
+
+-- the list without what stands at the key
+abbrev pub without : {T : Type 0} → (T → Ordering) → List T → List T
+without at xs = filter (λ x. not (is_eq (at x))) xs
+
+-- the items in ascending order of their keys; of those with one key the first in the list
+abbrev pub sorted_by : {T K : Type 0} → (T → K) → (K → K → Ordering) → List T → List T
+sorted_by key cmp [] = []
+sorted_by key cmp (x ∷ xs) = put (λ y. cmp (key y) (key x)) x (sorted_by key cmp xs)
+
+-- the set of a list: its elements in ascending order, each once
+abbrev pub sorted_set : {T : Type 0} → (T → T → Ordering) → List T → List T
+sorted_set cmp xs = sorted_by (λ x. x) cmp xs
 
 -- the item with the key stands at place i
 pub record IsPlace {T : Type 0} (at : T → Ordering) (xs : List T) (i : ℕ) : Type 0 where

@@ -5,13 +5,13 @@ use Rattle.cl_types.specs.declared.addr.Addr.{Addr}
 use Rattle.cl_types.specs.declared.blocks.Span.{Span}
 use Rattle.cl_types.specs.declared.blocks.Standing.{Standing}
 use Rattle.cl_types.specs.declared.blocks.Standing.TheVariants.{Inside, Outside, Mixed}
-use Rattle.cl_types.specs.declared.traffic.Masked.{Masked}
+use Rattle.cl_types.specs.declared.service.Masked.{Masked}
 use Rattle.cl_types.specs.Addr.{width_of, number_of, with_number}
-use Rattle.cl_types.specs.Prefix.{Block, Holds, cleared, free_bits}
+use Rattle.cl_types.specs.Prefix.{Block, IsBlock, Holds, cleared, free_bits}
 
 -- ---- ports (ovs-fields(7): a port and a mask)
 
--- a port that the mask lets through
+-- a port that the block matches
 abbrev pub Matches : Masked → ℕ → Type 0
 Matches b port = bit_and port b.mask ≡ b.value
 
@@ -33,6 +33,13 @@ pub record IsWidest (lo hi : ℕ) (b : Masked) : Type 0 where
   pub matches : Matches (twice b) port
   pub outside : ¬ ((lo ≤ port) × (port ≤ hi))
 
+-- a maximal block of the ports of a range: all its ports are in the range, and it is the whole or no larger
+-- block round it is in the range
+pub record IsMaximalPorts (lo hi : ℕ) (b : Masked) : Type 0 where
+  pub form : IsAligned b
+  pub inside : (port : ℕ) → port < 2 ^ 16 → Matches b port → (lo ≤ port) × (port ≤ hi)
+  pub widest : 0 < b.mask → IsWidest lo hi b
+
 -- each port of the one is below each port of the other
 abbrev pub PortsPrecede : Masked → Masked → Type 0
 PortsPrecede a b = (m n : ℕ) → m < 2 ^ 16 → n < 2 ^ 16 → Matches a m → Matches b n → m < n
@@ -53,6 +60,13 @@ pub record IsLargest (p : Block) (excepts : List Block) (b : Block) : Type 0 whe
   pub small : number_of address < 2 ^ width_of address
   pub held : Holds (shorter b) address
   pub outside : ¬ Remains p excepts address
+
+-- a maximal block of the addresses of a block without excepts: all its addresses remain, and it is the whole
+-- family or not all addresses of the block round it remain
+pub record IsMaximalBlock (p : Block) (excepts : List Block) (b : Block) : Type 0 where
+  pub form : IsBlock b.base b.len
+  pub inside : (a : Addr) → Holds b a → Remains p excepts a
+  pub largest : 0 < b.len → IsLargest p excepts b
 
 -- each address of the one is before each address of the other
 abbrev pub AddressesPrecede : Block → Block → Type 0
@@ -80,14 +94,15 @@ StandsAs P s Mixed = (0 < s.height) × Overshoots P s
 abbrev pub SpansPrecede : Span → Span → Type 0
 SpansPrecede a b = (m n : ℕ) → Within a m → Within b n → m < n
 
-abbrev pub IsPart : Span → Span → Type 0
-IsPart whole s = (n : ℕ) → Within s n → Within whole n
+-- all numbers of s are numbers of the whole
+abbrev pub IsSubspan : Span → Span → Type 0
+IsSubspan whole s = (n : ℕ) → Within s n → Within whole n
 
 -- the maximal spans of what the set has of the whole, ascending
 pub record AreSpansOf (P : ℕ → Type 0) (whole : Span) (spans : List Span) : Type 0 where
   pub found : (n : ℕ) → Within whole n → P n → Any (λ s. Within s n) spans
   pub within : (n : ℕ) → Any (λ s. Within s n) spans → P n
-  pub parts : All (IsPart whole) spans
+  pub parts : All (IsSubspan whole) spans
   pub lower : All (λ s. s.height ≤ whole.height) spans
   pub maximal : All (λ s. Overshoots P (wider s)) spans
   pub ascending : AllPairs SpansPrecede spans

@@ -1,12 +1,8 @@
 -- The tests of equality hold exactly where the two are one.
-use Rattle.std.proofs.Common.{◌≡◌, ℕ, List, Bool, true, false, ◌&&◌, refl, ap, sym, subst, ◌∙◌, ◌↔◌, arith, rules, IsTrue}
+use Rattle.std.proofs.Common.{◌≡◌, Bool, true, false, ◌&&◌, refl, ap, sym, subst, ◌↔◌, arith, IsTrue}
 use base.Stored.{Gv, gnil, gnum, gcons, Coded}
 use Rattle.std.proofs.lemmas.Bool.Decides.{nat_tests}
-use Rattle.std.specs.Ordering.{nat_cmp, eq_by_cmp, is_eq}
-use Rattle.std.specs.Cmp.Lexicographic.{slice_cmp}
-use Rattle.std.specs.Cmp.Rules.{comparing}
-use Rattle.std.proofs.lemmas.Cmp.{nat_list_cmp_total, eq_by_cmp_equiv}
-use Rattle.cl_types.specs.Equality.{stored_eq, is_same, text_eq}
+use Rattle.cl_types.specs.Equality.{stored_eq, is_same}
 
 both : (p q : Bool) → p && q ≡ true → (p ≡ true) × (q ≡ true)
 both true q h = (refl, h)
@@ -48,10 +44,3 @@ is_same-decided coded x y false one = decided (is_same coded x y) refl
     decided : (r : Bool) → is_same coded x y ≡ r → false ≡ r
     decided true is = one.1 (is_same-one coded x y is)
     decided false is = refl
-
-texts_tie : (a b : List ℕ) → text_eq a b ≡ eq_by_cmp (slice_cmp nat_cmp) a b
-texts_tie a b = search (comparing, rules)
-
--- texts are equal exactly where their order says so
-pub text_eq-cmp : (a b : List ℕ) → text_eq a b ≡ is_eq (slice_cmp nat_cmp b a)
-text_eq-cmp a b = texts_tie a b ∙ (eq_by_cmp_equiv nat_list_cmp_total).symm a b

@@ -1,11 +1,11 @@
 -- A verdict with its cause, as plain data.
 use Rattle.cl_types.specs.declared.keys.RuleKey.{RuleKey}
-use Rattle.cl_types.specs.declared.traffic.Verdict.{Verdict}
-use Rattle.cl_types.specs.declared.traffic.Cause.{Cause}
-use Rattle.cl_types.specs.declared.traffic.Cause.TheVariants as cause
-use Rattle.cl_types.specs.declared.traffic.Judged.{Judged}
+use Rattle.cl_types.specs.declared.verdict.Verdict.{Verdict}
+use Rattle.cl_types.specs.declared.verdict.Cause.{Cause}
+use Rattle.cl_types.specs.declared.verdict.Cause.TheVariants as cause
+use Rattle.cl_types.specs.declared.verdict.Judged.{Judged}
 
--- a rule that decided, isolation by a Kubernetes policy, or nothing that speaks of the traffic
+-- a rule that decided, isolation by a Kubernetes policy, or neither
 pub data Reason : Type 0 where
   by_rule : RuleKey → Reason
   by_isolation : Reason

@@ -10,12 +10,13 @@ use Rattle.cl_types.specs.declared.reading.Family.{Family}
 use Rattle.cl_types.specs.declared.reading.Parts.{Parts}
 use Rattle.cl_types.specs.declared.reading.Family.TheVariants.{Dotted, Colons}
 use Rattle.cl_types.specs.Addr.{width_of}
+use Rattle.cl_types.specs.Bytes.{dot, colon}
 use Rattle.cl_types.specs.Prefix.{Block, cleared}
 
 -- a dot or a colon
 abbrev pub separator_of : Family → ℕ
-separator_of Dotted = 46
-separator_of Colons = 58
+separator_of Dotted = dot
+separator_of Colons = colon
 
 -- how many values a part has
 abbrev pub base_of : Family → ℕ
@@ -23,20 +24,20 @@ base_of Dotted = 256
 base_of Colons = 65536
 
 -- one to four hexadecimal digits, of either case
-pub record IsGroup (text : List ℕ) (n : ℕ) : Type 0 where
+pub record IsHexGroup (text : List ℕ) (n : ℕ) : Type 0 where
   pub digits : AllDigits 16 text
   pub some : 1 ≤ length text
   pub short : length text ≤ 4
   pub value : n ≡ digits_value 16 text
 
--- a decimal below 256 without leading zeros
+-- a decimal number below 256 without leading zeros
 pub record IsOctet (text : List ℕ) (n : ℕ) : Type 0 where
   pub below : n < 256
   pub value : text ≡ decimal n
 
 abbrev pub IsPart : Family → List ℕ → ℕ → Type 0
 IsPart Dotted text n = IsOctet text n
-IsPart Colons text n = IsGroup text n
+IsPart Colons text n = IsHexGroup text n
 
 -- the text is these parts, with the separator between each two
 abbrev pub IsParts : Family → List ℕ → List ℕ → Type 0
@@ -93,7 +94,7 @@ Lacks byte text = All (λ b. b ≢ byte) text
 abbrev pub HasNoGap : List ℕ → Type 0
 HasNoGap [] = Unit {0}
 HasNoGap (a ∷ []) = Unit {0}
-HasNoGap (a ∷ b ∷ text) = (a ≡ 58 → b ≢ 58) × HasNoGap (b ∷ text)
+HasNoGap (a ∷ b ∷ text) = (a ≡ colon → b ≢ colon) × HasNoGap (b ∷ text)
 
 -- the number of some parts
 pub record IsNumber (f : Family) (parts : Parts) (ns : List ℕ) : Type 0 where

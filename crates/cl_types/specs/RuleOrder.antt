@@ -4,15 +4,14 @@ use Rattle.std.specs.Prelude.{ℕ}
 use Rattle.std.specs.declared.cmp.Ordering.{Ordering}
 use Rattle.std.specs.Ordering.{ordering_then, nat_cmp}
 use Rattle.std.specs.Cmp.{IsTotalOrder}
-use Rattle.std.specs.Cmp.Lexicographic.{slice_cmp}
-use Rattle.std.proofs.lemmas.Cmp.{on_total, then_total, nat_cmp_total, nat_list_cmp_total}
+use Rattle.std.proofs.lemmas.Cmp.{on_total, then_total, nat_cmp_total}
 use Rattle.cl_types.specs.declared.keys.PolicyKind.{PolicyKind}
 use Rattle.cl_types.specs.declared.keys.PolicyKind.TheVariants.{Cluster, Antrea, Kube}
-use Rattle.cl_types.specs.declared.keys.Dir.{Dir}
-use Rattle.cl_types.specs.declared.keys.Dir.TheVariants.{Ingress, Egress}
 use Rattle.cl_types.specs.declared.keys.PodKey.{PodKey}
 use Rattle.cl_types.specs.declared.keys.RuleKey.{RuleKey}
+use Rattle.cl_types.specs.Dir.{dir_place}
 use Rattle.cl_types.specs.PolicyName.{PolicyName}
+use Rattle.cl_types.specs.Text.{text_order, text_order_total}
 
 -- ClusterNetworkPolicy, Antrea NetworkPolicy, Kubernetes NetworkPolicy
 abbrev pub kind_place : PolicyKind → ℕ
@@ -20,29 +19,24 @@ kind_place Cluster = 0
 kind_place Antrea = 1
 kind_place Kube = 2
 
--- Ingress, then Egress
-abbrev pub dir_place : Dir → ℕ
-dir_place Ingress = 0
-dir_place Egress = 1
-
 -- by the bytes of namespace and name
 abbrev pub pod_order : PodKey → PodKey → Ordering
-pod_order a b = ordering_then (slice_cmp nat_cmp a.namespace b.namespace) (slice_cmp nat_cmp a.name b.name)
+pod_order a b = ordering_then (text_order a.namespace b.namespace) (text_order a.name b.name)
 
 -- by kind, then by the bytes of namespace and name
 abbrev pub policy_order : PolicyName → PolicyName → Ordering
 policy_order a b =
     ordering_then (nat_cmp (kind_place a.kind) (kind_place b.kind))
-    (ordering_then (slice_cmp nat_cmp a.namespace b.namespace) (slice_cmp nat_cmp a.name b.name))
+    (ordering_then (text_order a.namespace b.namespace) (text_order a.name b.name))
 
 pub pod_order_total : IsTotalOrder pod_order
 pod_order_total =
-    then_total (on_total (λ (k : PodKey). k.namespace) nat_list_cmp_total) (on_total (λ (k : PodKey). k.name) nat_list_cmp_total)
+    then_total (on_total (λ (k : PodKey). k.namespace) text_order_total) (on_total (λ (k : PodKey). k.name) text_order_total)
 
 pub policy_order_total : IsTotalOrder policy_order
 policy_order_total =
     then_total (on_total (λ (k : PolicyName). kind_place k.kind) nat_cmp_total)
-    (then_total (on_total (λ (k : PolicyName). k.namespace) nat_list_cmp_total) (on_total (λ (k : PolicyName). k.name) nat_list_cmp_total))
+    (then_total (on_total (λ (k : PolicyName). k.namespace) text_order_total) (on_total (λ (k : PolicyName). k.name) text_order_total))
 
 -- by tier, priority, policy, direction and place in the policy
 abbrev pub rule_order : RuleKey → RuleKey → Ordering

@@ -12,9 +12,10 @@ use Rattle.cl_types.specs.declared.keys.Dir.TheVariants.{Ingress, Egress}
 use Rattle.cl_types.specs.declared.keys.PodKey.{PodKey}
 use Rattle.cl_types.specs.declared.keys.PolicyKind.{PolicyKind}
 use Rattle.cl_types.specs.declared.keys.RuleKey.{RuleKey}
-use Rattle.cl_types.specs.declared.traffic.Verdict.{Verdict}
-use Rattle.cl_types.specs.declared.traffic.Verdict.TheVariants.{Allow, Drop, Reject}
+use Rattle.cl_types.specs.declared.verdict.Verdict.{Verdict}
+use Rattle.cl_types.specs.declared.verdict.Verdict.TheVariants.{Allow, Drop, Reject}
 use Rattle.cl_types.specs.declared.writing.ZeroRun.{ZeroRun}
+use Rattle.cl_types.specs.Bytes.{dot, colon}
 use Rattle.cl_types.specs.Prefix.{Block}
 use Rattle.cl_types.specs.PolicyName.{PolicyName, IsPolicyName}
 use Rattle.cl_types.specs.Judgement.{Reason, by_rule, by_isolation, by_default, Judgement}
@@ -48,7 +49,7 @@ pub record IsZeroRun (gs : List ℕ) (start len : ℕ) : Type 0 where
 
 -- lower-case hexadecimal digits without leading zeros, joined by colons
 abbrev pub hexadecimal_groups : List ℕ → List ℕ
-hexadecimal_groups gs = join_with_byte 58 (map (digits 16 false) gs)
+hexadecimal_groups gs = join_with_byte colon (map (digits 16 false) gs)
 
 -- `::` for the longest run of at least two zero groups
 abbrev pub compressed : List ℕ → List ℕ
@@ -59,7 +60,7 @@ compressed gs =
 
 -- the four bytes in decimal, joined by dots
 abbrev pub dotted : ℕ → List ℕ
-dotted n = join_with_byte 46 (map decimal (to_be_bytes w32 n))
+dotted n = join_with_byte dot (map decimal (to_be_bytes w32 n))
 
 -- four decimals joined by dots, or the text of RFC 5952
 abbrev pub address_text : Addr → List ℕ
@@ -82,8 +83,7 @@ kind_text Kube = codes "knp:"
 -- the kind's word with the name, or with namespace, `/` and name
 abbrev pub name_text : PolicyKind → List ℕ → List ℕ → List ℕ
 name_text Cluster namespace name = name
-name_text Antrea namespace name = namespace ++ (codes "/" ++ name)
-name_text Kube namespace name = namespace ++ (codes "/" ++ name)
+name_text _ namespace name = namespace ++ (codes "/" ++ name)
 
 abbrev pub policy_text : PolicyName → List ℕ
 policy_text k = kind_text k.kind ++ name_text k.kind k.namespace k.name
@@ -97,10 +97,14 @@ abbrev pub rule_text : RuleKey → List ℕ
 rule_text r =
     policy_text r.policy ++ (codes " " ++ (direction_text r.dir ++ (codes "[" ++ (decimal r.index ++ codes "]"))))
 
+-- how many bits the index of a rule has
+abbrev pub index_bits : ℕ
+index_bits = 32
+
 -- what the types keep of a rule's name
 pub record HasName (r : RuleKey) : Type 0 where
   pub policy : IsPolicyName r.policy.kind r.policy.namespace r.policy.name
-  pub index : r.index < 2 ^ 32
+  pub index : r.index < 2 ^ index_bits
 
 abbrev pub verdict_text : Verdict → List ℕ
 verdict_text Allow = codes "allow"

@@ -1,6 +1,8 @@
+ghost use Rattle.std.proofs.Common.{rules};
+ghost use Rattle.std.proofs.lemmas.Grind.{common_steps};
 ghost use Rattle.std.specs.Prelude.{◌≡◌, ◌^◌, ◌<◌, ◌↔◌, IsTrue, IfOk, refl};
 ghost use Rattle.std.specs.Ordering.{as_partial_cmp};
-ghost use Rattle.std.specs.Cmp.{partial_order_from_agreeing_total};
+ghost use Rattle.std.specs.Cmp.{partial_order_from_agreeing_total, partial_equiv_from_equiv};
 
 use crate::copies::Copies;
 use crate::memory::NoMemory;
@@ -8,7 +10,7 @@ use crate::same::Same;
 use std::cmp::Ordering;
 
 /// An address of either family. `V4` comes before `V6`.
-#[derive(Clone, Copy, Debug, PartialEq, Eq)]
+#[derive(Clone, Copy, Debug, Hash)]
 pub enum Addr {
     V4(u32),
     V6(u128),
@@ -36,6 +38,41 @@ impl Addr {
             Addr::V6(n) => n,
         }
     }
+}
+
+impl Addr {
+    ghost use Rattle.std.specs.Prelude.{◌≡◌};
+    ghost use Rattle.cl_types.specs.Addr.{addr_eq};
+
+    /// Whether the two are one address.
+    pub fn is(self, other: Addr) -> bool
+        ensures { result ≡ addr_eq self other }
+    {
+        self == other
+    }
+}
+
+impl PartialEq for Addr {
+    ghost use Rattle.cl_types.specs.Addr.{addr_eq};
+    ghost use Rattle.cl_types.specs.AddrEq.{addr_eq_equiv};
+
+    ghost eq = { addr_eq };
+
+    ghost laws = { partial_equiv_from_equiv addr_eq_equiv };
+
+    fn eq(&self, other: &Addr) -> bool {
+        match (*self, *other) {
+            (Addr::V4(a), Addr::V4(b)) => a == b,
+            (Addr::V6(a), Addr::V6(b)) => a == b,
+            _ => false,
+        }
+    }
+}
+
+impl Eq for Addr {
+    ghost use Rattle.cl_types.specs.AddrEq.{addr_eq_equiv};
+
+    ghost laws = { addr_eq_equiv };
 }
 
 /// IPv4 before IPv6, then by number.
@@ -72,9 +109,7 @@ impl PartialOrd for Addr {
 }
 
 impl Copies for Addr {
-    fn copy(&self) -> Result<Addr, NoMemory> {
-        Ok(*self)
-    }
+    ghost exact = { λ x y h. Prim.search (rules, common_steps) };
 }
 
 impl Same for Addr {

@@ -1,16 +1,16 @@
 ghost use Rattle.std.specs.Prelude.{◌≡◌, ◌≢◌, ℕ, ◌+◌, ◌-◌, ◌*◌, ◌/◌, ◌^◌, ◌<◌, ◌≤◌, ◌↔◌, IfOk, OnOk, All, map};
-ghost use Rattle.std.specs.List.{Any, AllPairs};
+ghost use Rattle.std.specs.List.{Any, AllPairs, Contains};
 ghost use Rattle.cl_types.specs.declared.addr.Addr.{Addr};
+ghost use Rattle.cl_types.specs.declared.service.Masked.{Masked};
 ghost use Rattle.cl_types.specs.Addr.{width_of, number_of, with_number};
-ghost use Rattle.cl_types.specs.Prefix.{Holds};
-ghost use Rattle.cl_types.specs.Blocks.{Matches, IsAligned, IsWidest, PortsPrecede, Remains, IsLargest, AddressesPrecede, Within, wider, Overshoots, StandsAs, IsPart, AppendsSpansOf, mask_of, IsPortSpan, span_of, block_at, FitsWidth};
+ghost use Rattle.cl_types.specs.Prefix.{Block, Holds};
+ghost use Rattle.cl_types.specs.Blocks.{Matches, IsMaximalPorts, PortsPrecede, Remains, IsMaximalBlock, AddressesPrecede, Within, wider, Overshoots, StandsAs, IsSubspan, AppendsSpansOf, mask_of, IsPortSpan, span_of, block_at, FitsWidth};
 
 use crate::addr::Addr;
-use crate::copies::Copies;
 use crate::list::List;
 use crate::memory::NoMemory;
 use crate::prefix::{Prefix, above};
-use crate::traffic::Masked;
+use crate::service::Masked;
 use std::alloc::Global;
 
 // The numbers that have the bits of `index` above their lowest `height` bits.
@@ -28,7 +28,7 @@ enum Standing {
     Mixed,
 }
 
-// A set of numbers, all in one span, whose spans can be tested.
+// A set of numbers, all of one span, whose spans can be tested.
 trait Region {
     ghost use Rattle.cl_types.specs.declared.blocks.Span.{Span};
 
@@ -39,7 +39,7 @@ trait Region {
     fn standing(&self, span: Span) -> Standing
         requires low { span.height ≤ 128 }
         requires fits { span.index < 2 ^ (128 - span.height) }
-        requires part { IsPart (whole self.now) span }
+        requires part { IsSubspan (whole self.now) span }
         ensures { StandsAs (has self.now) span result };
 }
 
@@ -47,7 +47,7 @@ trait Region {
 fn add_spans<R: Region>(spans: &mut Vec<Span>, region: &R, span: Span) -> Result<(), NoMemory>
     requires low { span.height ≤ 128 }
     requires fits { span.index < 2 ^ (128 - span.height) }
-    requires part { IsPart (R.whole region.now) span }
+    requires part { IsSubspan (R.whole region.now) span }
     requires larger { Overshoots (R.has region.now) (wider span) }
     ensures { OnOk result (AppendsSpansOf (R.has region.now) span spans.old.items spans.new.items) }
 {
@@ -152,8 +152,7 @@ pub fn blocks_of_range(alloc: Global, lo: u16, hi: u16) -> Result<List<Masked>, 
     requires { lo ≤ hi }
     ensures exact { IfOk result (λ blocks. (port : ℕ) → port < 2 ^ 16
         → (((lo ≤ port) × (port ≤ hi)) ↔ Any (λ b. Matches b port) blocks)) }
-    ensures aligned { IfOk result (λ blocks. All IsAligned blocks) }
-    ensures widest { IfOk result (λ blocks. All (λ b. 0 < b.mask → IsWidest lo hi b) blocks) }
+    ensures maximal { IfOk result (λ blocks. (b : Masked) → (IsMaximalPorts lo hi b ↔ Contains blocks b)) }
     ensures ascending { IfOk result (λ blocks. AllPairs PortsPrecede blocks) }
 {
     let mut spans = Vec::new(alloc);
@@ -165,7 +164,7 @@ pub fn blocks_of_range(alloc: Global, lo: u16, hi: u16) -> Result<List<Masked>, 
     masks(alloc, spans.as_slice())
 }
 
-// What an except takes from the span, if it is in the family of `base`.
+// How the span lies to what an except leaves, in the family of `base`.
 fn beside(span: Span, base: Addr, except: &Prefix) -> Standing
     requires low { span.height ≤ 128 }
     ensures { StandsAs (λ n. ¬ Holds except.now (with_number base n)) span result }
@@ -187,7 +186,7 @@ fn beside(span: Span, base: Addr, except: &Prefix) -> Standing
     }
 }
 
-// What the excepts leave of the span in the family of `base`.
+// How the span lies to what the excepts leave, in the family of `base`.
 fn left_of(span: Span, base: Addr, excepts: &[Prefix]) -> Standing
     requires low { span.height ≤ 128 }
     ensures { StandsAs (λ n. All (λ e. ¬ Holds e (with_number base n)) excepts.now) span result }
@@ -203,7 +202,7 @@ fn left_of(span: Span, base: Addr, excepts: &[Prefix]) -> Standing
     standing
 }
 
-// The addresses of a block that are in no except.
+// The addresses of a block that no except contains.
 #[derive(Clone, Copy)]
 struct Remaining<'a> {
     block: Prefix,
@@ -263,8 +262,8 @@ fn prefixes(alloc: Global, spans: &[Span], base: Addr) -> Result<List<Prefix>, N
     Ok(List::of(blocks))
 }
 
-/// The maximal blocks of the addresses that are in `p` and in no except, ascending. An except of the other
-/// family takes nothing away. The work grows with the lengths of the blocks and the number of excepts, and
+/// The maximal blocks of the addresses that `p` contains and no except does, ascending. An except of the
+/// other family removes nothing. The work grows with the lengths of the blocks and the number of excepts, and
 /// not with the number of addresses.
 pub fn blocks_without(
     alloc: Global,
@@ -272,7 +271,7 @@ pub fn blocks_without(
     excepts: &List<Prefix>,
 ) -> Result<List<Prefix>, NoMemory>
     ensures exact { IfOk result (λ blocks. (a : Addr) → (Remains p excepts.now a ↔ Any (λ b. Holds b a) blocks)) }
-    ensures largest { IfOk result (λ blocks. All (λ b. 0 < b.len → IsLargest p excepts.now b) blocks) }
+    ensures maximal { IfOk result (λ blocks. (b : Block) → (IsMaximalBlock p excepts.now b ↔ Contains blocks b)) }
     ensures ascending { IfOk result (λ blocks. AllPairs AddressesPrecede blocks) }
 {
     let mut spans = Vec::new(alloc);
@@ -282,12 +281,6 @@ pub fn blocks_without(
     };
     add_spans(&mut spans, &region, whole_of(&p))?;
     prefixes(alloc, spans.as_slice(), p.base)
-}
-
-impl Copies for Masked {
-    fn copy(&self) -> Result<Masked, NoMemory> {
-        Ok(*self)
-    }
 }
 
 #[cfg(test)]

@@ -1,11 +1,12 @@
-//! Lists of things that ascend by their keys.
+//! Lists of items that ascend by their keys.
 ghost use Rattle.std.specs.Prelude.{◌≡◌, IfOk, IfErr, OnOk, OnErr, option_copied};
-ghost use Rattle.cl_types.specs.Ascending.{Ascends, IsPlace, IsGap, found, put};
+ghost use Rattle.cl_types.specs.Ascending.{Ascends, IsPlace, IsGap, found, put, without};
 
 use crate::memory::NoMemory;
+use crate::text::Text;
 use std::cmp::Ordering;
 
-/// A thing with a key, which no other of its kind has.
+/// An item with a unique key.
 pub trait Keyed {
     type Key: Ord;
 
@@ -15,7 +16,7 @@ pub trait Keyed {
         ensures { result.now ≡ key self.now };
 }
 
-/// Where the thing with the key stands, or else where it would stand.
+/// The index of the item with the key, or where to insert one.
 pub fn search<T: Keyed>(items: &[T], key: &T::Key) -> Result<usize, usize>
     requires { Ascends T.key T.Key.cmp items.now }
     ensures found { IfOk result (IsPlace (λ x. T.Key.cmp (T.key x) key.now) items.now) }
@@ -28,7 +29,7 @@ pub fn search<T: Keyed>(items: &[T], key: &T::Key) -> Result<usize, usize>
     )
 }
 
-/// The thing with the key.
+/// The item with the key.
 pub fn find<'a, T: Keyed>(items: &'a [T], key: &T::Key) -> Option<&'a T>
     requires { Ascends T.key T.Key.cmp items.now }
     ensures { option_copied result ≡ found (λ x. T.Key.cmp (T.key x) key.now) items.now }
@@ -39,7 +40,7 @@ pub fn find<'a, T: Keyed>(items: &'a [T], key: &T::Key) -> Option<&'a T>
     }
 }
 
-/// Puts the thing at its key, in place of what stood there.
+/// Inserts the item at its key, in place of the item that had it.
 pub fn put<T: Keyed + Drop>(items: &mut Vec<T>, item: T) -> Result<(), NoMemory>
     requires { Ascends T.key T.Key.cmp items.old.items }
     ensures ok { OnOk result (items.new.items ≡ put (λ x. T.Key.cmp (T.key x) (T.key item)) item items.old.items) }
@@ -51,4 +52,28 @@ pub fn put<T: Keyed + Drop>(items: &mut Vec<T>, item: T) -> Result<(), NoMemory>
         Err(i) => items.insert(i, item)?,
     }
     Ok(())
+}
+
+/// Removes the item with the key, and hands it out.
+pub fn remove<T: Keyed>(items: &mut Vec<T>, key: &T::Key) -> Option<T>
+    requires { Ascends T.key T.Key.cmp items.old.items }
+    ensures item { result ≡ found (λ x. T.Key.cmp (T.key x) key.now) items.old.items }
+    ensures items { items.new.items ≡ without (λ x. T.Key.cmp (T.key x) key.now) items.old.items }
+    ensures ascends { Ascends T.key T.Key.cmp items.new.items }
+{
+    match search(items, key) {
+        Ok(i) => Some(items.remove(i)),
+        Err(_) => None,
+    }
+}
+
+/// A text is its own key.
+impl Keyed for Text {
+    type Key = Text;
+
+    ghost key = { λ t. t };
+
+    fn key(&self) -> &Text {
+        self
+    }
 }

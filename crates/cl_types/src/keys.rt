@@ -1,7 +1,10 @@
+ghost use Rattle.std.proofs.Common.{rules};
+ghost use Rattle.std.proofs.lemmas.Grind.{common_steps};
 ghost use Rattle.std.specs.Prelude.{◌≡◌, IfOk, refl};
 ghost use Rattle.std.specs.Ordering.{as_partial_cmp, eq_by_cmp};
 ghost use Rattle.std.specs.Cmp.{partial_order_from_agreeing_total, partial_equiv_from_equiv, eq_by_cmp_equiv};
-ghost use Rattle.cl_types.specs.RuleOrder.{kind_place, dir_place, pod_order, pod_order_total, policy_order, policy_order_total, rule_order};
+ghost use Rattle.cl_types.specs.RuleOrder.{kind_place, pod_order, pod_order_total, policy_order, policy_order_total, rule_order, rule_order_total};
+ghost use Rattle.cl_types.specs.Dir.{dir_place};
 
 use crate::copies::Copies;
 use crate::memory::NoMemory;
@@ -11,7 +14,7 @@ use std::cmp::Ordering;
 use std::marker::Model;
 
 /// A pod's name in its namespace.
-#[derive(Debug, Drop)]
+#[derive(Clone, Debug, Drop)]
 pub struct PodKey {
     pub namespace: Text,
     pub name: Text,
@@ -59,12 +62,7 @@ impl Eq for PodKey {
 }
 
 impl Copies for PodKey {
-    fn copy(&self) -> Result<PodKey, NoMemory> {
-        Ok(PodKey {
-            namespace: self.namespace.copy()?,
-            name: self.name.copy()?,
-        })
-    }
+    ghost exact = { λ x y h. Prim.search (rules, common_steps) };
 }
 
 impl Same for PodKey {
@@ -96,7 +94,7 @@ impl PolicyKind {
 
 /// A policy's kind and name. Neither text has the byte `/`, and the namespace is empty for a
 /// ClusterNetworkPolicy alone, so that different keys print differently.
-#[derive(Debug, Drop)]
+#[derive(Clone, Debug, Drop)]
 pub struct PolicyKey {
     pub kind: PolicyKind,
     pub namespace: Text,
@@ -159,13 +157,7 @@ impl Eq for PolicyKey {
 }
 
 impl Copies for PolicyKey {
-    fn copy(&self) -> Result<PolicyKey, NoMemory> {
-        Ok(PolicyKey {
-            kind: self.kind,
-            namespace: self.namespace.copy()?,
-            name: self.name.copy()?,
-        })
-    }
+    ghost exact = { λ x y h. Prim.search (rules, common_steps) };
 }
 
 impl Same for PolicyKey {
@@ -194,9 +186,21 @@ impl Dir {
     }
 }
 
+impl Dir {
+    ghost use Rattle.std.specs.Prelude.{◌≡◌};
+    ghost use Rattle.cl_types.specs.Dir.{dir_eq};
+
+    /// Whether the two are one direction.
+    pub fn is(self, other: Dir) -> bool
+        ensures { result ≡ dir_eq self other }
+    {
+        self == other
+    }
+}
+
 /// What orders and names a rule. A Kubernetes rule has tier 255 and priority 0; `index` counts from 0 in
 /// the list of the rule's direction.
-#[derive(Debug, Drop)]
+#[derive(Clone, Debug, Drop)]
 pub struct RuleKey {
     pub tier: u16,
     pub priority: u16,
@@ -205,16 +209,52 @@ pub struct RuleKey {
     pub index: u32,
 }
 
-impl Copies for RuleKey {
-    fn copy(&self) -> Result<RuleKey, NoMemory> {
-        Ok(RuleKey {
-            tier: self.tier,
-            priority: self.priority,
-            policy: self.policy.copy()?,
-            dir: self.dir,
-            index: self.index,
-        })
+/// By tier, priority, policy, direction and index.
+impl Ord for RuleKey {
+    ghost cmp = { rule_order };
+
+    ghost total = { rule_order_total };
+
+    ghost matches_partial_cmp = { λ a b. refl };
+
+    ghost matches_eq = { λ a b. refl };
+
+    fn cmp(&self, other: &RuleKey) -> Ordering {
+        self.tier
+            .cmp(&other.tier)
+            .then(self.priority.cmp(&other.priority))
+            .then(self.policy.cmp(&other.policy))
+            .then(self.dir.place().cmp(&other.dir.place()))
+            .then(self.index.cmp(&other.index))
     }
+}
+
+impl PartialOrd for RuleKey {
+    ghost partial_cmp = { as_partial_cmp rule_order };
+
+    ghost laws = { partial_order_from_agreeing_total rule_order rule_order_total (λ a b. refl) (λ a b. refl) };
+
+    fn partial_cmp(&self, other: &RuleKey) -> Option<Ordering> {
+        Some(self.cmp(other))
+    }
+}
+
+impl PartialEq for RuleKey {
+    ghost eq = { eq_by_cmp rule_order };
+
+    ghost laws = { partial_equiv_from_equiv (eq_by_cmp_equiv rule_order_total) };
+
+    fn eq(&self, other: &RuleKey) -> bool {
+        self.cmp(other).is_eq()
+    }
+}
+
+impl Eq for RuleKey {
+    ghost laws = { eq_by_cmp_equiv rule_order_total };
+}
+
+impl Copies for RuleKey {
+    ghost exact = { λ x y h. Prim.search (rules, common_steps) };
 }
 
 impl Same for RuleKey {
@@ -227,16 +267,11 @@ impl Same for RuleKey {
     }
 }
 
-/// The rule order: whichever of two rules is less is looked at first.
+/// The rule order: the lesser of two rules is looked at first.
 pub fn rule_cmp(a: &RuleKey, b: &RuleKey) -> Ordering
     ensures { result ≡ rule_order a.now b.now }
 {
-    a.tier
-        .cmp(&b.tier)
-        .then(a.priority.cmp(&b.priority))
-        .then(a.policy.cmp(&b.policy))
-        .then(a.dir.place().cmp(&b.dir.place()))
-        .then(a.index.cmp(&b.index))
+    a.cmp(b)
 }
 
 #[cfg(test)]

@@ -1,6 +1,7 @@
 //! Laws of the definitions that the contracts cite. Each function does nothing; its clause is the law.
 
-ghost use Rattle.std.specs.Prelude.{◌≡◌, ◌+◌, ◌^◌, ◌<◌, ◌≤◌, ℕ, List};
+ghost use Rattle.std.specs.Prelude.{◌≡◌, ◌+◌, ◌^◌, ◌<◌, ◌≤◌, ◌↔◌, ℕ, List, Some};
+ghost use Rattle.std.specs.Cmp.{IsTotalOrder};
 ghost use Rattle.std.specs.declared.cmp.Ordering.TheVariants.{Equal};
 ghost use Rattle.cl_types.specs.declared.addr.Addr.{Addr};
 ghost use Rattle.cl_types.specs.declared.addr.Addr.TheVariants.{V4};
@@ -10,6 +11,7 @@ ghost use Rattle.cl_types.specs.Addr.{addr_order, width_of, number_of};
 ghost use Rattle.cl_types.specs.PolicyName.{PolicyName, IsPolicyName, HasNoSlash};
 ghost use Rattle.cl_types.specs.RuleOrder.{pod_order, policy_order, rule_order};
 ghost use Rattle.cl_types.specs.Reading.{IsAddress, IsPrefix};
+ghost use Rattle.cl_types.specs.ReadText.{read_address, read_block};
 ghost use Rattle.cl_types.specs.Prefix.{Block, IsBlock};
 ghost use Rattle.cl_types.specs.Written.{longest_run, IsZeroRun, address_text, prefix_text, policy_text, rule_text, pod_text, HasName};
 
@@ -21,10 +23,25 @@ pub fn orders_are_exact()
     ensures rules { (a b : RuleKey) → rule_order a b ≡ Equal → a ≡ b }
 {}
 
+/// The orders of addresses, pods, policies and rules are total orders: of two that differ one is less, and
+/// what is less than a lesser one is less.
+pub fn orders_are_total()
+    ensures addresses { IsTotalOrder addr_order }
+    ensures pods { IsTotalOrder pod_order }
+    ensures policies { IsTotalOrder policy_order }
+    ensures rules { IsTotalOrder rule_order }
+{}
+
 /// A text is a form of one address at most, and of one prefix at most.
 pub fn texts_have_one_reading()
     ensures addresses { (text : List ℕ) (a b : Addr) → IsAddress text a → IsAddress text b → a ≡ b }
     ensures prefixes { (text : List ℕ) (p q : Block) → IsPrefix text p → IsPrefix text q → p ≡ q }
+{}
+
+/// The functions that read an address and a block of their texts agree with the grammar.
+pub fn texts_are_read_as_functions()
+    ensures addresses { (text : List ℕ) (a : Addr) → ((read_address text ≡ Some a) ↔ IsAddress text a) }
+    ensures blocks { (text : List ℕ) (b : Block) → ((read_block text ≡ Some b) ↔ IsPrefix text b) }
 {}
 
 /// Different policies have different texts. So have rules that differ in policy, direction or index, and
@@ -38,7 +55,7 @@ pub fn texts_tell_names_apart()
         → pod_text a ≡ pod_text b → a ≡ b }
 {}
 
-/// What is written of an address or a prefix is read as that address or prefix.
+/// The text that is written for an address or a prefix is read as that address or prefix.
 pub fn written_is_read()
     ensures addresses { (a : Addr) → number_of a < 2 ^ width_of a → IsAddress (address_text a) a }
     ensures prefixes { (b : Block) → number_of b.base < 2 ^ width_of b.base → IsBlock b.base b.len
@@ -47,7 +64,7 @@ pub fn written_is_read()
 
 /// A text of an IPv4 address is the one that is written.
 pub fn decimals_have_one_text()
-    ensures { (text : List ℕ) (n : ℕ) → IsAddress text (V4 n) → (text ≡ address_text (V4 n)) × (n < 2 ^ 32) }
+    ensures { (text : List ℕ) (n : ℕ) → IsAddress text (V4 n) → (text ≡ address_text (V4 n)) × (n < 2 ^ width_of (V4 n)) }
 {}
 
 /// `::` stands for zero groups alone. No run of zero groups is longer than the one that it stands for, and

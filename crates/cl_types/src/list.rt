@@ -1,9 +1,8 @@
-ghost use Rattle.std.specs.Prelude.{◌≡◌, [], ◌↔◌, IsTrue, IfOk};
+ghost use Rattle.std.specs.Prelude.{◌≡◌, [], ◌↔◌, IsTrue};
 
 use crate::copies::Copies;
-use crate::memory::NoMemory;
 use crate::same::Same;
-use std::alloc::Global;
+use std::alloc::{AllocError, Global};
 use std::marker::Model;
 
 /// Items in order.
@@ -28,14 +27,14 @@ impl<T> List<T> {
     ghost use Rattle.cl_types.specs.contracts.list.List.{the_row};
     ghost use Rattle.cl_types.specs.Rows.{vec_row};
 
-    /// Keeps the items that it is given.
+    /// The list of these items.
     pub fn of(items: Vec<T>) -> List<T>
         ensures { result ≡ items.items }
     {
         List { items }
     }
 
-    /// The empty list. It takes no memory.
+    /// The empty list. It does not allocate.
     pub fn new(alloc: Global) -> List<T>
         ensures { result ≡ [] }
     {
@@ -50,7 +49,7 @@ impl<T> List<T> {
         self.items.as_slice()
     }
 
-    /// The vector of the items, for changing it.
+    /// The vector of the items, to be edited.
     pub fn vec_mut(&mut self) -> &mut Vec<T>
         ensures* writes_back { sem 𝓛 (Lends (the_row T.row) (vec_row T.row) self.entry result (λ w. w.items)) }
         ensures value { result.now.items ≡ self.old }
@@ -59,14 +58,20 @@ impl<T> List<T> {
     }
 }
 
-impl<T: Copies + Drop> Copies for List<T> {
-    fn copy(&self) -> Result<List<T>, NoMemory> {
+impl<T: Copies> Clone for List<T> {
+    ghost is_clone = { λ items copy. copy ≡ items };
+
+    fn clone(&self) -> Result<List<T>, AllocError> {
         let mut items = Vec::with_capacity(*self.items.allocator(), self.items.len())?;
         for item in self.items.iter() {
-            items.push(item.copy()?)?;
+            items.push(item.clone()?)?;
         }
         Ok(List { items })
     }
+}
+
+impl<T: Copies> Copies for List<T> {
+    ghost exact = { λ x y h. h };
 }
 
 impl<T: Same> Same for List<T> {

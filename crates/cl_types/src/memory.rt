@@ -1,6 +1,6 @@
 use std::alloc::{AllocError, AllocFailed};
 
-/// There was no memory for what a call would have made.
+/// A call ran out of memory.
 #[derive(Clone, Copy, Debug, PartialEq, Eq)]
 pub struct NoMemory;
 

@@ -1,3 +1,5 @@
+ghost use Rattle.std.proofs.Common.{rules};
+ghost use Rattle.std.proofs.lemmas.Grind.{common_steps};
 ghost use Rattle.std.specs.Prelude.{◌≡◌, ◌≤◌, ◌*◌, ◌/◌, ◌^◌, ◌↔◌, IsTrue, IfOk};
 
 use crate::addr::Addr;
@@ -29,7 +31,7 @@ impl Model for Prefix {
 impl Prefix {
     ghost use Rattle.cl_types.specs.Prefix.{Holds, holds, block_of};
 
-    /// Whether `a` is in the block. It takes no memory.
+    /// Whether the block contains `a`.
     pub fn holds(&self, a: Addr) -> bool
         ensures meaning { IsTrue result ↔ Holds self.now a }
         ensures test { result ≡ holds self.now a }
@@ -47,7 +49,7 @@ impl Prefix {
         }
     }
 
-    /// The block that holds `a` alone. It takes no memory.
+    /// The block that contains `a` alone.
     pub fn of(a: Addr) -> Prefix
         ensures { result ≡ block_of a }
     {
@@ -75,9 +77,7 @@ pub(crate) fn without_low(n: u128, bits: u8) -> u128
 }
 
 impl Copies for Prefix {
-    fn copy(&self) -> Result<Prefix, NoMemory> {
-        Ok(*self)
-    }
+    ghost exact = { λ x y h. Prim.search (rules, common_steps) };
 }
 
 impl Same for Prefix {

@@ -4,7 +4,7 @@ ghost use Rattle.std.specs.Str.Parse.{AllDigits, digits_value};
 ghost use Rattle.cl_types.specs.declared.addr.Addr.{Addr};
 ghost use Rattle.cl_types.specs.Prefix.{Block, cleared};
 ghost use Rattle.cl_types.specs.Addr.{width_of};
-ghost use Rattle.cl_types.specs.Reading.{separator_of, base_of, IsGroup, IsOctet, IsPart, IsParts, IsNumber, IsFull, IsShortened, IsDotted, IsAddress, IsPrefix, Lacks, HasNoGap, Continues};
+ghost use Rattle.cl_types.specs.Reading.{separator_of, base_of, IsHexGroup, IsOctet, IsPart, IsParts, IsNumber, IsFull, IsShortened, IsDotted, IsAddress, IsPrefix, Lacks, HasNoGap, Continues};
 
 use crate::addr::Addr;
 use crate::prefix::{Prefix, without_low};
@@ -86,8 +86,8 @@ fn octet(text: &[u8]) -> Option<u16>
 }
 
 fn group(text: &[u8]) -> Option<u16>
-    ensures found { IfSome result (λ n. IsGroup text.now n) }
-    ensures none { IfNone result ((n : ℕ) → IsGroup text.now n → ⊥) }
+    ensures found { IfSome result (λ n. IsHexGroup text.now n) }
+    ensures none { IfNone result ((n : ℕ) → IsHexGroup text.now n → ⊥) }
 {
     if text.is_empty() || text.len() > 4 {
         return None;
@@ -242,7 +242,7 @@ fn address_of(text: &[u8]) -> Option<Addr>
     }
 }
 
-/// The address that the text is a form of. It takes no memory.
+/// The address that the text is a form of, else `BadAddr`.
 pub fn read_addr(text: &[u8]) -> Result<Addr, BadAddr>
     ensures found { IfOk result (λ a. IsAddress text.now a) }
     ensures bad { IfErr result (λ _. (a : Addr) → IsAddress text.now a → ⊥) }
@@ -284,7 +284,7 @@ fn prefix_of(text: &[u8]) -> Option<Prefix>
     clear_past(a, len as u8)
 }
 
-/// The block that the text is a form of. It takes no memory.
+/// The block that the text is a form of, else `BadPrefix`.
 pub fn read_prefix(text: &[u8]) -> Result<Prefix, BadPrefix>
     ensures found { IfOk result (λ p. IsPrefix text.now p) }
     ensures bad { IfErr result (λ _. (p : Block) → IsPrefix text.now p → ⊥) }

@@ -2,7 +2,7 @@ ghost use Rattle.std.specs.Prelude.{◌≡◌, ◌↔◌, IsTrue};
 
 /// A value whose equality with another can be tested.
 pub trait Same {
-    /// Whether the two are one value. It takes no memory.
+    /// Whether the two are one value.
     fn same(&self, other: &Self) -> bool
         ensures { IsTrue result ↔ (self.now ≡ other.now) };
 }

@@ -1,21 +1,21 @@
-ghost use Rattle.std.specs.Prelude.{◌≡◌, [], ◌↔◌, IsTrue, IfOk};
+ghost use Rattle.std.specs.Prelude.{◌≡◌, [], ◌↔◌, IsTrue};
 ghost use Rattle.std.specs.Prelude.{nat_eq};
 ghost use Rattle.std.specs.Ordering.{nat_cmp, as_partial_cmp};
 ghost use Rattle.std.specs.Cmp.Lexicographic.{slice_cmp};
 ghost use Rattle.std.specs.Cmp.{partial_order_from_own_ties, partial_equiv_from_equiv};
 ghost use Rattle.std.specs.Cmp.Rules.{comparing};
 ghost use Rattle.std.proofs.Common.{rules};
+ghost use Rattle.std.proofs.lemmas.Grind.{common_steps};
 ghost use Rattle.std.proofs.lemmas.Cmp.{nat_list_cmp_total, nat_list_eq_equiv};
 ghost use lib.Pointwise.{pointwise};
 
 use crate::copies::Copies;
-use crate::memory::NoMemory;
 use crate::same::Same;
-use std::alloc::Global;
+use std::alloc::{AllocError, Global};
 use std::cmp::Ordering;
 use std::marker::Model;
 
-/// Bytes, as they came. They need not be UTF-8.
+/// Bytes that need not be UTF-8.
 #[derive(Debug, Drop)]
 pub struct Text {
     bytes: Vec<u8>,
@@ -34,14 +34,14 @@ impl Text {
     ghost use Rattle.cl_types.specs.contracts.text.Text.{the_row};
     ghost use Rattle.cl_types.specs.Rows.{bytes_row};
 
-    /// Keeps the bytes that it is given.
+    /// The text of these bytes.
     pub fn of(bytes: Vec<u8>) -> Text
         ensures { result ≡ bytes.items }
     {
         Text { bytes }
     }
 
-    /// The empty text. It takes no memory.
+    /// The empty text. It does not allocate.
     pub fn new(alloc: Global) -> Text
         ensures { result ≡ [] }
     {
@@ -56,7 +56,7 @@ impl Text {
         self.bytes.as_slice()
     }
 
-    /// The vector of the bytes, for changing it.
+    /// The vector of the bytes, to be edited.
     pub fn vec_mut(&mut self) -> &mut Vec<u8>
         ensures* writes_back { sem 𝓛 (Lends the_row bytes_row self.entry result (λ w. w.items)) }
         ensures value { result.now.items ≡ self.old }
@@ -104,11 +104,17 @@ impl Ord for Text {
     }
 }
 
-impl Copies for Text {
-    fn copy(&self) -> Result<Text, NoMemory> {
+impl Clone for Text {
+    ghost is_clone = { λ text copy. copy ≡ text };
+
+    fn clone(&self) -> Result<Text, AllocError> {
         let bytes = Vec::from_slice(*self.bytes.allocator(), self.bytes.as_slice())?;
         Ok(Text { bytes })
     }
+}
+
+impl Copies for Text {
+    ghost exact = { λ x y h. h };
 }
 
 impl Same for Text {

@@ -1,7 +1,7 @@
-ghost use Rattle.std.specs.Prelude.{◌≡◌, ◌≤◌, ◌<◌, ◌+◌, ◌^◌, ◌++◌, false, OnOk, OnErr, map, take, length};
+ghost use Rattle.std.specs.Prelude.{◌≡◌, ℕ, ◌≤◌, ◌<◌, ◌+◌, ◌^◌, List as Items, ◌++◌, false, OnOk, OnErr, map, take, length};
 ghost use Rattle.std.specs.Fmt.{decimal, digits, digit_glyph};
 ghost use Rattle.std.specs.List.{join_with_byte};
-ghost use Rattle.cl_types.specs.Written.{Begins, longest_run, compressed, groups_of, dotted, address_text, prefix_text, pod_text, policy_text, direction_text, rule_text, verdict_text, reason_text, judged_text};
+ghost use Rattle.cl_types.specs.Written.{Begins, longest_run, compressed, groups_of, dotted, address_text, prefix_text, pod_text, policy_text, direction_text, rule_text, verdict_text, reason_text, judged_text, kind_text};
 ghost use Rattle.cl_types.specs.Judgement.{judgement_of, reason_of};
 
 use crate::addr::Addr;
@@ -9,7 +9,27 @@ use crate::keys::{Dir, PodKey, PolicyKey, PolicyKind, RuleKey};
 use crate::memory::NoMemory;
 use crate::prefix::Prefix;
 use crate::text::Text;
-use crate::traffic::{Cause, Judged, Verdict};
+use crate::verdict::{Cause, Judged, Verdict};
+
+/// What has a printed text.
+pub trait Written {
+    ghost text: { Self → Items ℕ };
+
+    /// Appends the text. A call that runs out of memory may leave a part of the text behind.
+    fn append(&self, out: &mut Text) -> Result<(), NoMemory>
+        ensures ok { OnOk result (out.new ≡ out.old ++ text self.now) }
+        ensures err { OnErr result (Begins out.old out.new) };
+
+    /// Appends the whole text, or leaves `out` as it was.
+    fn write(&self, out: &mut Text) -> Result<(), NoMemory>
+        ensures ok { OnOk result (out.new ≡ out.old ++ text self.now) }
+        ensures err { OnErr result (out.new ≡ out.old) }
+    {
+        let len = out.as_slice().len();
+        let done = self.append(out);
+        undone(out, len, done)
+    }
+}
 
 /// Appends the bytes.
 pub fn write_bytes(out: &mut Text, bytes: &[u8]) -> Result<(), NoMemory>
@@ -20,7 +40,7 @@ pub fn write_bytes(out: &mut Text, bytes: &[u8]) -> Result<(), NoMemory>
     Ok(())
 }
 
-// Takes away what a writer left that came to no end.
+// Removes what a writer that failed has appended.
 fn undone(out: &mut Text, len: usize, done: Result<(), NoMemory>) -> Result<(), NoMemory>
     ensures same { result ≡ done }
     ensures ok { OnOk done (out.new ≡ out.old) }
@@ -61,9 +81,33 @@ pub fn write_number(out: &mut Text, n: u64) -> Result<(), NoMemory>
     ensures ok { OnOk result (out.new ≡ out.old ++ decimal n) }
     ensures err { OnErr result (out.new ≡ out.old) }
 {
+    n.write(out)
+}
+
+/// Appends the number in lower-case hexadecimal digits, without leading zeros.
+pub fn write_hexadecimal(out: &mut Text, n: u64) -> Result<(), NoMemory>
+    ensures ok { OnOk result (out.new ≡ out.old ++ digits 16 false n) }
+    ensures err { OnErr result (out.new ≡ out.old) }
+{
     let len = out.as_slice().len();
-    let done = append_digits(out, n, 10);
+    let done = append_digits(out, n, 16);
     undone(out, len, done)
+}
+
+impl Written for u64 {
+    ghost text = { decimal };
+
+    fn append(&self, out: &mut Text) -> Result<(), NoMemory> {
+        append_digits(out, *self, 10)
+    }
+}
+
+impl Written for Text {
+    ghost text = { λ t. t };
+
+    fn append(&self, out: &mut Text) -> Result<(), NoMemory> {
+        write_bytes(out, self.as_slice())
+    }
 }
 
 // The digits of the parts, with the separator between each two.
@@ -141,13 +185,14 @@ fn append_dotted(out: &mut Text, n: u32) -> Result<(), NoMemory>
     append_joined(out, &octets, 10, b'.')
 }
 
-fn append_addr(out: &mut Text, a: Addr) -> Result<(), NoMemory>
-    ensures ok { OnOk result (out.new ≡ out.old ++ address_text a) }
-    ensures err { OnErr result (Begins out.old out.new) }
-{
-    match a {
-        Addr::V4(n) => append_dotted(out, n),
-        Addr::V6(n) => append_compressed(out, &split_groups(n)),
+impl Written for Addr {
+    ghost text = { address_text };
+
+    fn append(&self, out: &mut Text) -> Result<(), NoMemory> {
+        match *self {
+            Addr::V4(n) => append_dotted(out, n),
+            Addr::V6(n) => append_compressed(out, &split_groups(n)),
+        }
     }
 }
 
@@ -156,18 +201,17 @@ pub fn write_addr(out: &mut Text, a: Addr) -> Result<(), NoMemory>
     ensures ok { OnOk result (out.new ≡ out.old ++ address_text a) }
     ensures err { OnErr result (out.new ≡ out.old) }
 {
-    let len = out.as_slice().len();
-    let done = append_addr(out, a);
-    undone(out, len, done)
+    a.write(out)
 }
 
-fn append_prefix(out: &mut Text, p: &Prefix) -> Result<(), NoMemory>
-    ensures ok { OnOk result (out.new ≡ out.old ++ prefix_text p.now) }
-    ensures err { OnErr result (Begins out.old out.new) }
-{
-    write_addr(out, p.base)?;
-    write_bytes(out, b"/")?;
-    write_number(out, u64::from(p.len))
+impl Written for Prefix {
+    ghost text = { prefix_text };
+
+    fn append(&self, out: &mut Text) -> Result<(), NoMemory> {
+        self.base.write(out)?;
+        write_bytes(out, b"/")?;
+        write_number(out, u64::from(self.len))
+    }
 }
 
 /// Appends the block's address, `/` and its length.
@@ -175,18 +219,17 @@ pub fn write_prefix(out: &mut Text, p: &Prefix) -> Result<(), NoMemory>
     ensures ok { OnOk result (out.new ≡ out.old ++ prefix_text p.now) }
     ensures err { OnErr result (out.new ≡ out.old) }
 {
-    let len = out.as_slice().len();
-    let done = append_prefix(out, p);
-    undone(out, len, done)
+    p.write(out)
 }
 
-fn append_pod(out: &mut Text, pod: &PodKey) -> Result<(), NoMemory>
-    ensures ok { OnOk result (out.new ≡ out.old ++ pod_text pod.now) }
-    ensures err { OnErr result (Begins out.old out.new) }
-{
-    write_bytes(out, pod.namespace.as_slice())?;
-    write_bytes(out, b"/")?;
-    write_bytes(out, pod.name.as_slice())
+impl Written for PodKey {
+    ghost text = { pod_text };
+
+    fn append(&self, out: &mut Text) -> Result<(), NoMemory> {
+        self.namespace.write(out)?;
+        write_bytes(out, b"/")?;
+        self.name.write(out)
+    }
 }
 
 /// Appends the pod's text.
@@ -194,25 +237,30 @@ pub fn write_pod(out: &mut Text, pod: &PodKey) -> Result<(), NoMemory>
     ensures ok { OnOk result (out.new ≡ out.old ++ pod_text pod.now) }
     ensures err { OnErr result (out.new ≡ out.old) }
 {
-    let len = out.as_slice().len();
-    let done = append_pod(out, pod);
-    undone(out, len, done)
+    pod.write(out)
 }
 
-fn append_policy(out: &mut Text, policy: &PolicyKey) -> Result<(), NoMemory>
-    ensures ok { OnOk result (out.new ≡ out.old ++ policy_text policy.now) }
-    ensures err { OnErr result (Begins out.old out.new) }
+fn kind_word(kind: PolicyKind) -> &'static [u8]
+    ensures { result.now ≡ kind_text kind }
 {
-    match policy.kind {
-        PolicyKind::Cluster => write_bytes(out, b"acnp:")?,
-        PolicyKind::Antrea => write_bytes(out, b"anp:")?,
-        PolicyKind::Kube => write_bytes(out, b"knp:")?,
+    match kind {
+        PolicyKind::Cluster => b"acnp:",
+        PolicyKind::Antrea => b"anp:",
+        PolicyKind::Kube => b"knp:",
     }
-    if policy.kind != PolicyKind::Cluster {
-        write_bytes(out, policy.namespace.as_slice())?;
-        write_bytes(out, b"/")?;
+}
+
+impl Written for PolicyKey {
+    ghost text = { policy_text };
+
+    fn append(&self, out: &mut Text) -> Result<(), NoMemory> {
+        write_bytes(out, kind_word(self.kind))?;
+        if self.kind != PolicyKind::Cluster {
+            self.namespace.write(out)?;
+            write_bytes(out, b"/")?;
+        }
+        self.name.write(out)
     }
-    write_bytes(out, policy.name.as_slice())
 }
 
 /// Appends the policy's text.
@@ -220,21 +268,20 @@ pub fn write_policy(out: &mut Text, policy: &PolicyKey) -> Result<(), NoMemory>
     ensures ok { OnOk result (out.new ≡ out.old ++ policy_text policy.now) }
     ensures err { OnErr result (out.new ≡ out.old) }
 {
-    let len = out.as_slice().len();
-    let done = append_policy(out, policy);
-    undone(out, len, done)
+    policy.write(out)
 }
 
-fn append_rule(out: &mut Text, rule: &RuleKey) -> Result<(), NoMemory>
-    ensures ok { OnOk result (out.new ≡ out.old ++ rule_text rule.now) }
-    ensures err { OnErr result (Begins out.old out.new) }
-{
-    write_policy(out, &rule.policy)?;
-    write_bytes(out, b" ")?;
-    write_bytes(out, direction_word(rule.dir))?;
-    write_bytes(out, b"[")?;
-    write_number(out, u64::from(rule.index))?;
-    write_bytes(out, b"]")
+impl Written for RuleKey {
+    ghost text = { rule_text };
+
+    fn append(&self, out: &mut Text) -> Result<(), NoMemory> {
+        self.policy.write(out)?;
+        write_bytes(out, b" ")?;
+        write_bytes(out, direction_word(self.dir))?;
+        write_bytes(out, b"[")?;
+        write_number(out, u64::from(self.index))?;
+        write_bytes(out, b"]")
+    }
 }
 
 fn direction_word(dir: Dir) -> &'static [u8]
@@ -251,9 +298,7 @@ pub fn write_rule(out: &mut Text, rule: &RuleKey) -> Result<(), NoMemory>
     ensures ok { OnOk result (out.new ≡ out.old ++ rule_text rule.now) }
     ensures err { OnErr result (out.new ≡ out.old) }
 {
-    let len = out.as_slice().len();
-    let done = append_rule(out, rule);
-    undone(out, len, done)
+    rule.write(out)
 }
 
 fn verdict_word(verdict: Verdict) -> &'static [u8]
@@ -266,24 +311,26 @@ fn verdict_word(verdict: Verdict) -> &'static [u8]
     }
 }
 
-fn write_cause(out: &mut Text, cause: &Cause) -> Result<(), NoMemory>
-    ensures ok { OnOk result (out.new ≡ out.old ++ reason_text (reason_of cause.now)) }
-    ensures err { OnErr result (out.new ≡ out.old) }
-{
-    match cause {
-        Cause::Rule(rule) => write_rule(out, rule),
-        Cause::Isolation => write_bytes(out, b"isolation"),
-        Cause::Default => write_bytes(out, b"default"),
+impl<'a> Written for Cause<'a> {
+    ghost text = { λ cause. reason_text (reason_of cause) };
+
+    fn append(&self, out: &mut Text) -> Result<(), NoMemory> {
+        match self {
+            Cause::Rule(rule) => rule.append(out),
+            Cause::Isolation => write_bytes(out, b"isolation"),
+            Cause::Default => write_bytes(out, b"default"),
+        }
     }
 }
 
-fn append_judged(out: &mut Text, judged: &Judged) -> Result<(), NoMemory>
-    ensures ok { OnOk result (out.new ≡ out.old ++ judged_text (judgement_of judged.now)) }
-    ensures err { OnErr result (Begins out.old out.new) }
-{
-    write_bytes(out, verdict_word(judged.verdict))?;
-    write_bytes(out, b" by ")?;
-    write_cause(out, &judged.by)
+impl<'a> Written for Judged<'a> {
+    ghost text = { λ judged. judged_text (judgement_of judged) };
+
+    fn append(&self, out: &mut Text) -> Result<(), NoMemory> {
+        write_bytes(out, verdict_word(self.verdict))?;
+        write_bytes(out, b" by ")?;
+        self.by.write(out)
+    }
 }
 
 /// Appends the verdict with its cause.
@@ -291,9 +338,7 @@ pub fn write_judged(out: &mut Text, judged: &Judged) -> Result<(), NoMemory>
     ensures ok { OnOk result (out.new ≡ out.old ++ judged_text (judgement_of judged.now)) }
     ensures err { OnErr result (out.new ≡ out.old) }
 {
-    let len = out.as_slice().len();
-    let done = append_judged(out, judged);
-    undone(out, len, done)
+    judged.write(out)
 }
 
 #[cfg(test)]

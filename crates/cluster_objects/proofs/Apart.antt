@@ -8,14 +8,19 @@ use Rattle.std.specs.Ordering.{is_eq, match_ordering, ordering_reverse}
 use Rattle.std.proofs.lemmas.Bool.{true≢false}
 use Rattle.cl_types.specs.declared.addr.Addr.{Addr}
 use Rattle.cl_types.specs.declared.addr.Addr.TheVariants.{V4, V6}
+use Rattle.cl_types.specs.AscendingLaws.{all_put}
 use Rattle.cl_types.specs.Ascending.{Ascends, put}
-use Rattle.cl_types.specs.Equality.{addr_eq}
+use Rattle.cl_types.specs.Addr.{addr_eq}
 use Rattle.cl_types.specs.RuleOrder.{pod_order, pod_order_total}
-use Rattle.cluster_objects.specs.Apply.{at_pod, takes_address}
-use Rattle.cluster_objects.specs.Evaluation.{has_address}
-use Rattle.cluster_objects.specs.Groups.{counts}
-use Rattle.cluster_objects.specs.Kept.{AreApart, AllApart}
-use Rattle.cluster_objects.specs.Objects.{PodData}
+use Rattle.cl_types.specs.Ascending.{found}
+use Rattle.cl_types.specs.Equality.{is_same}
+use Rattle.cluster_objects.specs.declared.change.Applied.TheVariants.{Changed, Unchanged}
+use Rattle.cluster_objects.specs.declared.pod.Pod as pod
+use Rattle.cluster_objects.specs.Apply.{Placed, is_there, placed, at_pod, takes_address}
+use Rattle.cluster_objects.specs.Pod.{has_address}
+use Rattle.cluster_objects.specs.Pod.{counts}
+use Rattle.cluster_objects.specs.Cluster.{AreApart, AllApart}
+use Rattle.cluster_objects.specs.Pod.{PodData}
 
 addr_eq-one : (a b : Addr) → addr_eq a b ≡ true → a ≡ b
 addr_eq-one (V4 n) (V4 m) h = ap V4 (eqb-true n m h)
@@ -79,15 +84,6 @@ all_free p qs none = by_test (counts p) refl none
 turned : (p q : PodData) → AreApart p q → AreApart q p
 turned p q apart q_counts p_counts a q_has p_has = apart p_counts q_counts a p_has q_has
 
-all_put : (P : PodData → Type 0) (at : PodData → Ordering) (x : PodData) (ys : List PodData) → P x → AllByRecursion P ys → AllByRecursion P (put at x ys)
-all_put P at x [] here all = (here, tt)
-all_put P at x (y ∷ ys) here all = by_place (at y) (all_put P at x ys here all.1)
-  where
-    by_place : (r : Ordering) → AllByRecursion P (put at x ys) → AllByRecursion P (match_ordering r (y ∷ put at x ys) (x ∷ ys) (x ∷ y ∷ ys))
-    by_place Less rest = (all.0, rest)
-    by_place Equal rest = (here, all.1)
-    by_place Greater rest = (here, (all.0, all.1))
-
 less-equal : Less ≡ Equal → ⊥
 less-equal e = cc
 
@@ -114,9 +110,20 @@ put_apart_at p (y ∷ ys) ascends free apart = by_place (pod_order y.key p.key) 
     rest not_before (z ∷ zs) less all = (all.0 (past p y z not_before less.0), rest not_before zs less.1 all.1)
 
     by_place : (r : Ordering) → pod_order y.key p.key ≡ r → AllApart (put (at_pod p.key) p ys) → AllApart (match_ordering r (y ∷ put (at_pod p.key) p ys) (p ∷ ys) (p ∷ y ∷ ys))
-    by_place Less is more = (all_put (AreApart y) (at_pod p.key) p ys (turned p y (free.0 (λ e. less-equal (sym is ∙ e)))) apart.0, more)
+    by_place Less is more = (all_put (at_pod p.key) (AreApart y) p ys (turned p y (free.0 (λ e. less-equal (sym is ∙ e)))) apart.0, more)
     by_place Equal is more = (rest (λ e. less-equal (sym e ∙ is)) ys ascends.0 free.1, apart.1)
     by_place Greater is more = ((free.0 (λ e. greater-equal (sym is ∙ e)), rest (λ e. greater-less (sym is ∙ e)) ys ascends.0 free.1), (apart.0, apart.1))
 
 pub put_apart : (p : PodData) (qs : List PodData) → Ascends (λ (q : PodData). q.key) pod_order qs → (if counts p then find (takes_address p) qs else None) ≡ None → AllApart qs → AllApart (put (at_pod p.key) p qs)
 put_apart p qs ascends none apart = put_apart_at p qs ascends (all_free p qs none) apart
+
+-- after a put of a free pod all are apart, whether it was there or not
+pub placed_apart : (p : PodData) (qs : List PodData) → Ascends (λ (q : PodData). q.key) pod_order qs → (if counts p then find (takes_address p) qs else None) ≡ None → AllApart qs → AllApart (placed (is_same pod.the_code) (at_pod p.key) p qs).items
+placed_apart p qs ascends none apart = by_test (is_there (is_same pod.the_code) p (found (at_pod p.key) qs))
+  where
+    either : Bool → Placed PodData
+    either b = if b then record { items = qs; applied = Unchanged } else record { items = put (at_pod p.key) p qs; applied = Changed }
+
+    by_test : (b : Bool) → AllApart (either b).items
+    by_test true = apart
+    by_test false = put_apart p qs ascends none apart

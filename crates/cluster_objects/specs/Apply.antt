@@ -8,6 +8,7 @@ use Rattle.std.specs.Cmp.Lexicographic.{slice_cmp}
 use Rattle.cl_types.specs.declared.keys.PodKey.{PodKey}
 use Rattle.cl_types.specs.Ascending.{found, put}
 use Rattle.cl_types.specs.Equality.{is_same}
+use Rattle.cl_types.specs.PolicyName.{PolicyName}
 use Rattle.cl_types.specs.RuleOrder.{policy_order, pod_order}
 use Rattle.cluster_objects.specs.declared.change.Applied.{Applied}
 use Rattle.cluster_objects.specs.declared.change.Applied.TheVariants.{Changed, Unchanged}
@@ -20,14 +21,27 @@ use Rattle.cluster_objects.specs.declared.change.Object.TheVariants as object
 use Rattle.cluster_objects.specs.declared.node.NodeInfo as node
 use Rattle.cluster_objects.specs.declared.pod.Pod as pod
 use Rattle.cluster_objects.specs.declared.policy.Policy as policy
-use Rattle.cluster_objects.specs.Evaluation.{has_address}
-use Rattle.cluster_objects.specs.Groups.{counts}
-use Rattle.cluster_objects.specs.Objects.{NodeData, PodData, PolicyData}
-use Rattle.cluster_objects.specs.State.{ClusterData}
+use Rattle.cluster_objects.specs.Pod.{has_address}
+use Rattle.cluster_objects.specs.Pod.{counts}
+use Rattle.cluster_objects.specs.Node.{NodeData}
+use Rattle.cluster_objects.specs.Pod.{PodData}
+use Rattle.cluster_objects.specs.Policy.{PolicyData}
+use Rattle.cluster_objects.specs.Cluster.{ClusterData}
+
+abbrev pub makes_difference : Applied → Bool
+makes_difference Changed = true
+makes_difference Unchanged = false
 
 -- a cluster after a change, and whether the change made a difference
 pub record Outcome : Type 0 where
   pub cluster : ClusterData
+  pub applied : Applied
+
+-- ---- one kind of objects
+
+-- the objects of one kind after a put, and whether it made a difference
+pub record Placed (T : Type 0) : Type 0 where
+  pub items : List T
   pub applied : Applied
 
 -- what stands at a key is one with the new thing
@@ -35,18 +49,31 @@ abbrev pub is_there : {T : Type 0} → (T → T → Bool) → T → Option T →
 is_there same x None = false
 is_there same x (Some y) = same y x
 
+-- The new thing stands at its key, in place of what stood there. It makes no difference where it stood there already.
+abbrev pub placed : {T : Type 0} → (T → T → Bool) → (T → Ordering) → T → List T → Placed T
+placed same at x xs =
+    if is_there same x (found at xs)
+    then record { items = xs; applied = Unchanged }
+    else record { items = put at x xs; applied = Changed }
+
+-- the cluster that a put of one kind leaves
+abbrev pub leaves : {T : Type 0} → Placed T → (List T → ClusterData) → Outcome
+leaves p with = record { cluster = with p.items; applied = p.applied }
+
 -- ---- nodes
 
 abbrev pub at_node : List ℕ → NodeData → Ordering
 at_node name n = slice_cmp nat_cmp n.name name
 
+abbrev pub node_placed : ClusterData → NodeData → Placed NodeData
+node_placed c n = placed (is_same node.the_code) (at_node n.name) n c.nodes
+
+-- once the nodes are fixed, no put may make a difference
 abbrev pub put_node : ClusterData → NodeData → Result Outcome ClusterRefusal
 put_node c n =
-    if is_there (is_same node.the_code) n (found (at_node n.name) c.nodes)
-    then Ok (record { cluster = c; applied = Unchanged })
-    else (if c.fixed
+    if c.fixed && makes_difference (node_placed c n).applied
     then Err NodesFixed
-    else Ok (record { cluster = record c { nodes = put (at_node n.name) n c.nodes }; applied = Changed }))
+    else Ok (leaves (node_placed c n) (λ nodes. record c { nodes = nodes }))
 
 -- ---- pods
 
@@ -61,14 +88,11 @@ takes_address p other = not (is_eq (pod_order other.key p.key)) && counts other 
 abbrev pub address_taker : ClusterData → PodData → Option PodData
 address_taker c p = if counts p then find (takes_address p) c.pods else None
 
-abbrev pub fixed_with_pod : ClusterData → PodData → Outcome
-fixed_with_pod c p =
-    if is_there (is_same pod.the_code) p (found (at_pod p.key) c.pods)
-    then record { cluster = record c { fixed = true }; applied = Unchanged }
-    else record { cluster = record c { fixed = true; pods = put (at_pod p.key) p c.pods }; applied = Changed }
+abbrev pub pod_placed : ClusterData → PodData → Placed PodData
+pod_placed c p = placed (is_same pod.the_code) (at_pod p.key) p c.pods
 
 abbrev pub unless_taken : Option PodData → ClusterData → PodData → Result Outcome ClusterRefusal
-unless_taken None c p = Ok (fixed_with_pod c p)
+unless_taken None c p = Ok (leaves (pod_placed c p) (λ pods. record c { fixed = true; pods = pods }))
 unless_taken (Some other) c p = Err (AddressInUse other.key)
 
 abbrev pub put_pod : ClusterData → PodData → Result Outcome ClusterRefusal
@@ -76,14 +100,12 @@ put_pod c p = unless_taken (address_taker c p) c p
 
 -- ---- policies
 
-abbrev pub at_policy : PolicyData → PolicyData → Ordering
-at_policy p other = policy_order other.key p.key
+abbrev pub at_policy : PolicyName → PolicyData → Ordering
+at_policy key p = policy_order p.key key
 
 abbrev pub put_policy : ClusterData → PolicyData → Result Outcome ClusterRefusal
 put_policy c p =
-    if is_there (is_same policy.the_code) p (found (at_policy p) c.policies)
-    then Ok (record { cluster = record c { fixed = true }; applied = Unchanged })
-    else Ok (record { cluster = record c { fixed = true; policies = put (at_policy p) p c.policies }; applied = Changed })
+    Ok (leaves (placed (is_same policy.the_code) (at_policy p.key) p c.policies) (λ policies. record c { fixed = true; policies = policies }))
 
 -- ---- changes
 

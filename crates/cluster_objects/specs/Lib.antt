@@ -1,7 +1,9 @@
 pub mod Apply
+pub mod Cluster
 pub mod Evaluation
 pub mod Groups
-pub mod Kept
-pub mod Objects
-pub mod State
+pub mod Node
+pub mod Pod
+pub mod Policy
 pub mod Steps
+pub mod StepsLaws

@@ -1,33 +1,32 @@
 -- The three steps in which a verdict is found, over any rules with a key and an action (Antrea's tiers, with
 -- Baseline after the Kubernetes policies).
-use Rattle.std.specs.Prelude.{List, [], ◌∷◌, Bool, true, false, not, ◌&&◌, ◌==◌, Option, Some, None, if◌then◌else◌}
+use Rattle.std.specs.Prelude.{ℕ, List, [], ◌∷◌, Bool, true, false, not, ◌&&◌, ◌==◌, Option, Some, None, if◌then◌else◌}
 use Rattle.std.specs.Ordering.{is_gt}
 use Rattle.cl_types.specs.declared.keys.PolicyKind.{PolicyKind}
-use Rattle.cl_types.specs.declared.keys.PolicyKind.TheVariants.{Cluster, Antrea, Kube}
+use Rattle.cl_types.specs.declared.keys.PolicyKind.TheVariants.{Kube}
 use Rattle.cl_types.specs.declared.keys.RuleKey.{RuleKey}
-use Rattle.cl_types.specs.declared.traffic.Action.{Action}
-use Rattle.cl_types.specs.declared.traffic.Action.TheVariants as action
-use Rattle.cl_types.specs.declared.traffic.Verdict.{Verdict}
-use Rattle.cl_types.specs.declared.traffic.Verdict.TheVariants as verdict
+use Rattle.cl_types.specs.declared.verdict.Action.{Action}
+use Rattle.cl_types.specs.declared.verdict.Action.TheVariants as action
+use Rattle.cl_types.specs.declared.verdict.Verdict.{Verdict}
+use Rattle.cl_types.specs.declared.verdict.Verdict.TheVariants as verdict
+use Rattle.cluster_objects.specs.declared.steps.Stage.{Stage}
+use Rattle.cluster_objects.specs.declared.steps.Stage.TheVariants.{Native, Kubernetes, Baseline}
 use Rattle.cl_types.specs.Judgement.{Judgement, by_rule, by_isolation, by_default}
 use Rattle.cl_types.specs.RuleOrder.{rule_order}
 
 abbrev pub is_kube : PolicyKind → Bool
-is_kube Cluster = false
-is_kube Antrea = false
 is_kube Kube = true
+is_kube _ = false
 
--- the stages in which rules are looked at: native rules, Kubernetes rules, Baseline rules
-pub data Stage : Type 0 where
-  native : Stage
-  kubernetes : Stage
-  baseline : Stage
+-- Baseline is the tier with this number
+abbrev pub baseline_tier : ℕ
+baseline_tier = 253
 
--- the tier of Baseline is 253
+-- native rules outside Baseline, rules of Kubernetes policies, native rules of Baseline
 abbrev pub in_stage : Stage → PolicyKind → RuleKey → Bool
-in_stage native kind key = not (is_kube kind) && not (key.tier == 253)
-in_stage kubernetes kind key = is_kube kind
-in_stage baseline kind key = not (is_kube kind) && (key.tier == 253)
+in_stage Native kind key = not (is_kube kind) && not (key.tier == baseline_tier)
+in_stage Kubernetes kind key = is_kube kind
+in_stage Baseline kind key = not (is_kube kind) && (key.tier == baseline_tier)
 
 -- of two rules the one that is looked at first
 abbrev pub earlier : {R : Type 0} → (R → RuleKey) → R → Option R → R
@@ -66,7 +65,7 @@ allowed_first key (Some r) = judged verdict.Allow (key r)
 -- isolated pod, and of any other pod the Baseline rules, and at last everything is allowed.
 abbrev pub verdict_of : {R : Type 0} → (R → RuleKey) → (R → Action) → (Stage → List R) → Bool → Judgement
 verdict_of key act rules isolated =
-    decided_first key act (first key (rules native))
+    decided_first key act (first key (rules Native))
     (if isolated
-    then allowed_first key (first key (rules kubernetes))
-    else decided_first key act (first key (rules baseline)) allowed_by_default)
+    then allowed_first key (first key (rules Kubernetes))
+    else decided_first key act (first key (rules Baseline)) allowed_by_default)

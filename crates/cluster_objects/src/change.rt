@@ -1,3 +1,5 @@
+ghost use Rattle.std.proofs.Common.{rules};
+ghost use Rattle.std.proofs.lemmas.Grind.{common_steps};
 ghost use Rattle.std.specs.Prelude.{◌≡◌, IfOk};
 ghost use Rattle.cluster_objects.specs.declared.change.ClusterRefusal.TheVariants.{NoMemory as no_memory};
 
@@ -8,7 +10,7 @@ use cl_types::{Copies, NoMemory, PodKey};
 use thiserror::Error;
 
 /// An object of the cluster.
-#[derive(Debug, Drop)]
+#[derive(Clone, Debug, Drop)]
 pub enum Object {
     Node(NodeInfo),
     Pod(Pod),
@@ -16,27 +18,17 @@ pub enum Object {
 }
 
 impl Copies for Object {
-    fn copy(&self) -> Result<Object, NoMemory> {
-        match self {
-            Object::Node(node) => Ok(Object::Node(node.copy()?)),
-            Object::Pod(pod) => Ok(Object::Pod(pod.copy()?)),
-            Object::Policy(policy) => Ok(Object::Policy(policy.copy()?)),
-        }
-    }
+    ghost exact = { λ x y h. Prim.search (rules, common_steps) };
 }
 
 /// A change of the cluster.
-#[derive(Debug, Drop)]
+#[derive(Clone, Debug, Drop)]
 pub enum Change {
     Put(Object),
 }
 
 impl Copies for Change {
-    fn copy(&self) -> Result<Change, NoMemory> {
-        match self {
-            Change::Put(object) => Ok(Change::Put(object.copy()?)),
-        }
-    }
+    ghost exact = { λ x y h. Prim.search (rules, common_steps) };
 }
 
 /// Whether a change made a difference.
@@ -47,7 +39,7 @@ pub enum Applied {
 }
 
 /// Why a change is refused.
-#[derive(Debug, Drop, Error)]
+#[derive(Clone, Debug, Drop, Error)]
 pub enum ClusterRefusal {
     /// The nodes are fixed, and a Node would change.
     #[error("the nodes are fixed")]
@@ -60,13 +52,7 @@ pub enum ClusterRefusal {
 }
 
 impl Copies for ClusterRefusal {
-    fn copy(&self) -> Result<ClusterRefusal, NoMemory> {
-        match self {
-            ClusterRefusal::NodesFixed => Ok(ClusterRefusal::NodesFixed),
-            ClusterRefusal::AddressInUse(pod) => Ok(ClusterRefusal::AddressInUse(pod.copy()?)),
-            ClusterRefusal::NoMemory => Ok(ClusterRefusal::NoMemory),
-        }
-    }
+    ghost exact = { λ x y h. Prim.search (rules, common_steps) };
 }
 
 impl From<NoMemory> for ClusterRefusal {

@@ -1,8 +1,10 @@
-ghost use Rattle.std.specs.Prelude.{◌≡◌, ◌&&◌, IfOk, option_copied, Ok, None, find};
+ghost use Rattle.std.proofs.Common.{rules};
+ghost use Rattle.std.proofs.lemmas.Grind.{common_steps};
+ghost use Rattle.std.specs.Prelude.{◌≡◌, ◌&&◌, IfOk, OnErr, option_copied, Ok, None, find};
 ghost use Rattle.cl_types.specs.Ascending.{Ascends, found};
 ghost use Rattle.cl_types.specs.Equality.{is_same};
-ghost use Rattle.cluster_objects.specs.Apply.{is_there};
-ghost use Rattle.cluster_objects.specs.State.{static_tiers, tier_of};
+ghost use Rattle.cluster_objects.specs.Apply.{is_there, placed};
+ghost use Rattle.cluster_objects.specs.Cluster.{static_tiers, tier_of};
 
 use crate::change::{Applied, Change, ClusterRefusal, Object};
 use crate::egress::EgressObj;
@@ -15,7 +17,7 @@ use std::alloc::Global;
 use std::marker::Model;
 
 /// The objects of a cluster, each kind in ascending order of its keys.
-#[derive(Debug, Drop)]
+#[derive(Clone, Debug, Drop)]
 pub struct Cluster {
     nodes: List<NodeInfo>,
     fixed: bool,
@@ -27,8 +29,8 @@ pub struct Cluster {
 }
 
 impl Model for Cluster {
-    ghost use Rattle.cluster_objects.specs.Kept.{IsCluster};
-    ghost use Rattle.cluster_objects.specs.State.{ClusterData};
+    ghost use Rattle.cluster_objects.specs.Cluster.{IsCluster};
+    ghost use Rattle.cluster_objects.specs.Cluster.{ClusterData};
 
     ghost Value = { ClusterData };
 
@@ -38,23 +40,7 @@ impl Model for Cluster {
 }
 
 impl Copies for Cluster {
-    fn copy(&self) -> Result<Cluster, NoMemory> {
-        let nodes = self.nodes.copy()?;
-        let namespaces = self.namespaces.copy()?;
-        let pods = self.pods.copy()?;
-        let tiers = self.tiers.copy()?;
-        let policies = self.policies.copy()?;
-        let egresses = self.egresses.copy()?;
-        Ok(Cluster {
-            nodes,
-            fixed: self.fixed,
-            namespaces,
-            pods,
-            tiers,
-            policies,
-            egresses,
-        })
-    }
+    ghost exact = { λ x y h. Prim.search (rules, common_steps) };
 }
 
 /// The key of the label that every namespace has, with its name (Kubernetes).
@@ -94,11 +80,26 @@ fn is_there<T: Keyed + Same>(items: &[T], item: &T) -> bool
     }
 }
 
+// Puts the item at its key, in place of what stood there, and tells whether that makes a difference.
+fn place<T: Keyed + Same + Drop>(items: &mut Vec<T>, item: T) -> Result<Applied, NoMemory>
+    requires { Ascends T.key T.Key.cmp items.old.items }
+    ensures ok { IfOk result (λ applied. placed (is_same T.row.coded) (λ x. T.Key.cmp (T.key x) (T.key item)) item items.old.items ≡ record { items = items.new.items; applied = applied }) }
+    ensures err { OnErr result (items.new.items ≡ items.old.items) }
+    ensures ascends { Ascends T.key T.Key.cmp items.new.items }
+{
+    if is_there(items.as_slice(), &item) {
+        return Ok(Applied::Unchanged);
+    }
+    cl_types::put(items, item)?;
+    Ok(Applied::Changed)
+}
+
 impl Cluster {
-    ghost use Rattle.cluster_objects.specs.Apply.{apply, put_node, put_pod, address_taker, fixed_with_pod, put_policy, Follows};
-    ghost use Rattle.cluster_objects.specs.State.{no_objects};
-    ghost use Rattle.cluster_objects.specs.Groups.{counts, has, ns_labels};
-    ghost use Rattle.cluster_objects.specs.Evaluation.{has_address};
+    ghost use Rattle.cluster_objects.specs.Apply.{apply, put_node, put_pod, address_taker, unless_taken, put_policy, Follows};
+    ghost use Rattle.cluster_objects.specs.Cluster.{no_objects};
+    ghost use Rattle.cluster_objects.specs.Pod.{counts};
+    ghost use Rattle.cluster_objects.specs.Groups.{in_group, ns_labels};
+    ghost use Rattle.cluster_objects.specs.Pod.{has_address};
     ghost use Rattle.label_select.specs.Selection.{selects};
 
     /// The static tiers and nothing else, with the nodes not fixed.
@@ -165,9 +166,9 @@ impl Cluster {
         counting_pod_at(self.pods.as_slice(), a)
     }
 
-    /// Whether the group has the pod. It takes no memory.
+    /// Whether the group contains the pod.
     pub fn in_group(&self, g: &GroupKey, p: &Pod) -> bool
-        ensures { result ≡ has self.now g.now p.now }
+        ensures { result ≡ in_group self.now g.now p.now }
     {
         let namespace = &p.key.namespace;
         let in_scope = match &g.scope {
@@ -202,14 +203,10 @@ impl Cluster {
     fn put_node(&mut self, node: NodeInfo) -> Result<Applied, ClusterRefusal>
         ensures { Follows (put_node self.old node) self.old result self.new }
     {
-        if is_there(self.nodes.as_slice(), &node) {
-            return Ok(Applied::Unchanged);
-        }
-        if self.fixed {
+        if self.fixed && !is_there(self.nodes.as_slice(), &node) {
             return Err(ClusterRefusal::NodesFixed);
         }
-        cl_types::put(self.nodes.vec_mut(), node)?;
-        Ok(Applied::Changed)
+        Ok(place(self.nodes.vec_mut(), node)?)
     }
 
     fn put_pod(&mut self, pod: Pod) -> Result<Applied, ClusterRefusal>
@@ -224,26 +221,18 @@ impl Cluster {
     // Puts a pod whose addresses no other has.
     fn put_free_pod(&mut self, pod: Pod) -> Result<Applied, ClusterRefusal>
         requires { address_taker self.old pod ≡ None }
-        ensures { Follows (Ok (fixed_with_pod self.old pod)) self.old result self.new }
+        ensures { Follows (unless_taken None self.old pod) self.old result self.new }
     {
-        if is_there(self.pods.as_slice(), &pod) {
-            self.fixed = true;
-            return Ok(Applied::Unchanged);
-        }
-        cl_types::put(self.pods.vec_mut(), pod)?;
+        let applied = place(self.pods.vec_mut(), pod)?;
         self.fixed = true;
-        Ok(Applied::Changed)
+        Ok(applied)
     }
 
     fn put_policy(&mut self, policy: Policy) -> Result<Applied, ClusterRefusal>
         ensures { Follows (put_policy self.old policy) self.old result self.new }
     {
-        if is_there(self.policies.as_slice(), &policy) {
-            self.fixed = true;
-            return Ok(Applied::Unchanged);
-        }
-        cl_types::put(self.policies.vec_mut(), policy)?;
+        let applied = place(self.policies.vec_mut(), policy)?;
         self.fixed = true;
-        Ok(Applied::Changed)
+        Ok(applied)
     }
 }

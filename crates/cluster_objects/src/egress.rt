@@ -1,10 +1,12 @@
+ghost use Rattle.std.proofs.Common.{rules};
+ghost use Rattle.std.proofs.lemmas.Grind.{common_steps};
 ghost use Rattle.std.specs.Prelude.{◌≡◌, IfOk};
 
 use cl_types::{Addr, Copies, Keyed, NoMemory, Text};
 use label_select::GroupKey;
 
 /// An Egress of Antrea: traffic of the group's pods out of the cluster leaves with `address` by `node`.
-#[derive(Debug, Drop)]
+#[derive(Clone, Debug, Drop)]
 pub struct EgressObj {
     pub name: Text,
     pub address: Addr,
@@ -23,12 +25,5 @@ impl Keyed for EgressObj {
 }
 
 impl Copies for EgressObj {
-    fn copy(&self) -> Result<EgressObj, NoMemory> {
-        Ok(EgressObj {
-            name: self.name.copy()?,
-            address: self.address,
-            node: self.node.copy()?,
-            applied: self.applied.copy()?,
-        })
-    }
+    ghost exact = { λ x y h. Prim.search (rules, common_steps) };
 }

@@ -1,3 +1,5 @@
+ghost use Rattle.std.proofs.Common.{rules};
+ghost use Rattle.std.proofs.lemmas.Grind.{common_steps};
 ghost use Rattle.std.specs.Prelude.{◌≡◌, IfOk, IsTrue, ◌↔◌};
 
 use cl_types::{Copies, Keyed, NoMemory, Prefix, Same, Text};
@@ -6,7 +8,7 @@ use std::marker::Model;
 
 /// A node and the blocks of its pods' addresses: one of IPv4 with a length of 8 to 30, and perhaps one of
 /// IPv6 with a length of 16 to 126.
-#[derive(Debug, Drop)]
+#[derive(Clone, Debug, Drop)]
 pub struct NodeInfo {
     pub name: Text,
     pub cidr: Prefix,
@@ -14,7 +16,7 @@ pub struct NodeInfo {
 }
 
 impl Model for NodeInfo {
-    ghost use Rattle.cluster_objects.specs.Objects.{NodeData, IsNode};
+    ghost use Rattle.cluster_objects.specs.Node.{NodeData, IsNode};
 
     ghost Value = { NodeData };
 
@@ -34,13 +36,7 @@ impl Keyed for NodeInfo {
 }
 
 impl Copies for NodeInfo {
-    fn copy(&self) -> Result<NodeInfo, NoMemory> {
-        Ok(NodeInfo {
-            name: self.name.copy()?,
-            cidr: self.cidr,
-            cidr6: self.cidr6,
-        })
-    }
+    ghost exact = { λ x y h. Prim.search (rules, common_steps) };
 }
 
 impl Same for NodeInfo {
@@ -50,7 +46,7 @@ impl Same for NodeInfo {
 }
 
 /// A namespace and its labels.
-#[derive(Debug, Drop)]
+#[derive(Clone, Debug, Drop)]
 pub struct Namespace {
     pub name: Text,
     pub labels: Labels,
@@ -67,10 +63,5 @@ impl Keyed for Namespace {
 }
 
 impl Copies for Namespace {
-    fn copy(&self) -> Result<Namespace, NoMemory> {
-        Ok(Namespace {
-            name: self.name.copy()?,
-            labels: self.labels.copy()?,
-        })
-    }
+    ghost exact = { λ x y h. Prim.search (rules, common_steps) };
 }

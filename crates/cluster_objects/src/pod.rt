@@ -1,8 +1,10 @@
+ghost use Rattle.std.proofs.Common.{rules};
+ghost use Rattle.std.proofs.lemmas.Grind.{common_steps};
 ghost use Rattle.std.specs.Prelude.{◌≡◌, ◌&&◌, IfOk, IsTrue, ◌↔◌, find, option_copied, None, if◌then◌else◌};
 ghost use Rattle.std.specs.List.{list_any};
 ghost use Rattle.cluster_objects.specs.Apply.{takes_address};
-ghost use Rattle.cluster_objects.specs.Evaluation.{has_address};
-ghost use Rattle.cluster_objects.specs.Groups.{counts};
+ghost use Rattle.cluster_objects.specs.Pod.{has_address};
+ghost use Rattle.cluster_objects.specs.Pod.{counts};
 
 use cl_types::{Addr, Copies, Keyed, List, NamedPort, NoMemory, PodKey, Same, Text};
 use label_select::Labels;
@@ -11,7 +13,7 @@ use std::marker::Model;
 /// A pod. It has at most one address of each family, the IPv4 one first, and its named ports ascend by name
 /// and protocol, without a repeat. `node` is empty where the pod has none; `ended` is whether its phase is
 /// Succeeded or Failed.
-#[derive(Debug, Drop)]
+#[derive(Clone, Debug, Drop)]
 pub struct Pod {
     pub key: PodKey,
     pub node: Text,
@@ -23,7 +25,7 @@ pub struct Pod {
 }
 
 impl Model for Pod {
-    ghost use Rattle.cluster_objects.specs.Objects.{PodData, IsPod};
+    ghost use Rattle.cluster_objects.specs.Pod.{PodData, IsPod};
 
     ghost Value = { PodData };
 
@@ -43,17 +45,7 @@ impl Keyed for Pod {
 }
 
 impl Copies for Pod {
-    fn copy(&self) -> Result<Pod, NoMemory> {
-        Ok(Pod {
-            key: self.key.copy()?,
-            node: self.node.copy()?,
-            addresses: self.addresses.copy()?,
-            host: self.host,
-            ended: self.ended,
-            labels: self.labels.copy()?,
-            ports: self.ports.copy()?,
-        })
-    }
+    ghost exact = { λ x y h. Prim.search (rules, common_steps) };
 }
 
 impl Same for Pod {

@@ -1,5 +1,8 @@
+ghost use Rattle.std.proofs.Common.{rules};
+ghost use Rattle.std.proofs.lemmas.Grind.{common_steps};
 ghost use Rattle.std.specs.Prelude.{◌≡◌, IfOk, IsTrue, ◌↔◌};
 
+use crate::steps::Ruling;
 use cl_types::{
     Action, Copies, Keyed, List, NoMemory, PolicyKey, PortName, Prefix, RuleKey, Same, Service,
     Text,
@@ -8,7 +11,7 @@ use label_select::GroupKey;
 use std::marker::Model;
 
 /// A tier of native policies. A lower number is looked at first.
-#[derive(Debug, Drop)]
+#[derive(Clone, Debug, Drop)]
 pub struct Tier {
     pub name: Text,
     pub priority: u16,
@@ -25,28 +28,18 @@ impl Keyed for Tier {
 }
 
 impl Copies for Tier {
-    fn copy(&self) -> Result<Tier, NoMemory> {
-        Ok(Tier {
-            name: self.name.copy()?,
-            priority: self.priority,
-        })
-    }
+    ghost exact = { λ x y h. Prim.search (rules, common_steps) };
 }
 
 /// A block of peers: the addresses in `cidr` that are in no except.
-#[derive(Debug, Drop)]
+#[derive(Clone, Debug, Drop)]
 pub struct Block {
     pub cidr: Prefix,
     pub excepts: List<Prefix>,
 }
 
 impl Copies for Block {
-    fn copy(&self) -> Result<Block, NoMemory> {
-        Ok(Block {
-            cidr: self.cidr,
-            excepts: self.excepts.copy()?,
-        })
-    }
+    ghost exact = { λ x y h. Prim.search (rules, common_steps) };
 }
 
 impl Same for Block {
@@ -56,7 +49,7 @@ impl Same for Block {
 }
 
 /// Whom a rule lets speak with a pod. `Never` is nobody.
-#[derive(Debug, Drop)]
+#[derive(Clone, Debug, Drop)]
 pub enum Peer {
     Group(GroupKey),
     Block(Block),
@@ -64,13 +57,7 @@ pub enum Peer {
 }
 
 impl Copies for Peer {
-    fn copy(&self) -> Result<Peer, NoMemory> {
-        match self {
-            Peer::Group(group) => Ok(Peer::Group(group.copy()?)),
-            Peer::Block(block) => Ok(Peer::Block(block.copy()?)),
-            Peer::Never => Ok(Peer::Never),
-        }
-    }
+    ghost exact = { λ x y h. Prim.search (rules, common_steps) };
 }
 
 impl Same for Peer {
@@ -84,9 +71,9 @@ impl Same for Peer {
     }
 }
 
-/// A rule of a policy. Without `peers` it has every peer; without `services` it has all traffic. Where its
-/// policy names ports, `services` is there, perhaps empty, and `named` has the ports given by name.
-#[derive(Debug, Drop)]
+/// A rule of a policy. Without `peers` it is for every peer; without `services` it matches all traffic.
+/// Where its policy names ports, `services` is there, perhaps empty, and `named` has the ports given by name.
+#[derive(Clone, Debug, Drop)]
 pub struct Rule {
     pub key: RuleKey,
     pub action: Action,
@@ -96,15 +83,7 @@ pub struct Rule {
 }
 
 impl Copies for Rule {
-    fn copy(&self) -> Result<Rule, NoMemory> {
-        Ok(Rule {
-            key: self.key.copy()?,
-            action: self.action,
-            peers: self.peers.copy()?,
-            services: self.services.copy()?,
-            named: self.named.copy()?,
-        })
-    }
+    ghost exact = { λ x y h. Prim.search (rules, common_steps) };
 }
 
 impl Same for Rule {
@@ -117,9 +96,25 @@ impl Same for Rule {
     }
 }
 
+impl Ruling for Rule {
+    ghost use Rattle.cluster_objects.specs.Evaluation.{rule_key, rule_action};
+
+    ghost rule_key = { rule_key };
+
+    ghost rule_action = { rule_action };
+
+    fn rule_key(&self) -> &RuleKey {
+        &self.key
+    }
+
+    fn action(&self) -> Action {
+        self.action
+    }
+}
+
 /// A policy. A Kubernetes policy has an empty `tier` and priority 0; `isolates_in` and `isolates_out` are
 /// its directions. A native policy isolates nobody.
-#[derive(Debug, Drop)]
+#[derive(Clone, Debug, Drop)]
 pub struct Policy {
     pub key: PolicyKey,
     pub tier: Text,
@@ -131,7 +126,7 @@ pub struct Policy {
 }
 
 impl Model for Policy {
-    ghost use Rattle.cluster_objects.specs.Objects.{PolicyData, IsPolicy};
+    ghost use Rattle.cluster_objects.specs.Policy.{PolicyData, IsPolicy};
 
     ghost Value = { PolicyData };
 
@@ -151,17 +146,7 @@ impl Keyed for Policy {
 }
 
 impl Copies for Policy {
-    fn copy(&self) -> Result<Policy, NoMemory> {
-        Ok(Policy {
-            key: self.key.copy()?,
-            tier: self.tier.copy()?,
-            priority: self.priority,
-            applied: self.applied.copy()?,
-            isolates_in: self.isolates_in,
-            isolates_out: self.isolates_out,
-            rules: self.rules.copy()?,
-        })
-    }
+    ghost exact = { λ x y h. Prim.search (rules, common_steps) };
 }
 
 impl Same for Policy {

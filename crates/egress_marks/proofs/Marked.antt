@@ -3,13 +3,14 @@ use Rattle.std.proofs.Common.{◌≡◌, ℕ, ◌+◌, ◌-◌, ◌<◌, ◌≤�
 use Rattle.std.specs.List.{slice_get, position_or_len}
 use Rattle.std.proofs.lemmas.List.Sums.{sum_by-cons, sum_by-set, passes_at_first, fails_before_first}
 use Rattle.std.proofs.lemmas.Option.{slice_get-get_or}
-use Rattle.std.proofs.lemmas.Bool.{ltb-false, lt-ltb, le-ltb, eqb-true}
+use Rattle.std.proofs.lemmas.Bool.{ltb-false, lt-ltb, le-ltb}
 use Rattle.std.proofs.lemmas.List.Quantifiers.{position-Some}
 use Rattle.std.proofs.lemmas.List.{length-set, length-map, length-replicate}
 use Rattle.std.specs.Option.{option_map}
 use Rattle.cl_types.specs.declared.addr.Addr.{Addr}
-use Rattle.cl_types.specs.declared.addr.Addr.TheVariants.{V4, V6}
-use Rattle.egress_marks.specs.Places.{no_marks, is_same, is_held_by, mark_of, IsHeld, freed, IsMarks}
+use Rattle.cl_types.specs.Addr.{addr_eq}
+use Rattle.cl_types.specs.AddrEq.{addr_eq-one}
+use Rattle.egress_marks.specs.Places.{no_marks, is_held_by, mark_of, IsHeld, freed, IsMarks}
 
 -- where not all places are held, one is free
 pub some_free : (places : List (Option Addr)) → count_by is_some places < length places → position_or_len is_none places < length places
@@ -19,7 +20,7 @@ some_free (Some a ∷ places) h =
     let one = sum_by-cons (λ x. cond (is_some x) 1 0) (Some a) places in
     omega (arith, h, one, some_free places (omega (arith, h, one)))
 
-none_is : (r : Option Addr) → is_none r ≡ true → r ≡ None
+pub none_is : (r : Option Addr) → is_none r ≡ true → r ≡ None
 none_is None h = refl
 none_is (Some a) h = cc
 
@@ -50,18 +51,12 @@ count_none p (x ∷ xs) h =
       | false ↦ λ e g. one ∙ rw e (omega (arith, count_none p xs (omega (arith, g))))
     ] refl h
 
-no_position : {X : Type 0} (p : X → Bool) (xs : List X) → IsNone (option_map (λ (i : ℕ). i + 1) (position p xs)) → length xs ≤ position_or_len p xs
+pub no_position : {X : Type 0} (p : X → Bool) (xs : List X) → IsNone (option_map (λ (i : ℕ). i + 1) (position p xs)) → length xs ≤ position_or_len p xs
 no_position p xs h =
     elim (ltb (position_or_len p xs) (length xs)) as (λ b. ltb (position_or_len p xs) (length xs) ≡ b → IsNone (option_map (λ (i : ℕ). i + 1) (cond b (Some (position_or_len p xs)) None)) → length xs ≤ position_or_len p xs) [
       | true ↦ λ e g. cc
       | false ↦ λ e g. ltb-false (position_or_len p xs) (length xs) e
     ] refl h
-
-same_address : (a b : Addr) → is_same a b ≡ true → a ≡ b
-same_address (V4 x) (V4 y) h = ap V4 (eqb-true x y h)
-same_address (V4 x) (V6 y) h = cc
-same_address (V6 x) (V4 y) h = cc
-same_address (V6 x) (V6 y) h = ap V6 (eqb-true x y h)
 
 -- one more place of a counts for a alone
 pub IsMarks-marked : (places : List (Option Addr)) (a : Addr) → IsMarks places → IsNone (mark_of places a) → position_or_len is_none places < length places → IsMarks (set places (position_or_len is_none places) (Some a))
@@ -72,9 +67,9 @@ IsMarks-marked places a marks none lt =
     record {
       all = length-set places i (Some a) ∙ marks.all;
       once = λ b.
-          elim (is_same a b) as (λ t. is_same a b ≡ t → count_by (is_held_by b) (set places i (Some a)) ≤ 1) [
+          elim (addr_eq a b) as (λ t. addr_eq a b ≡ t → count_by (is_held_by b) (set places i (Some a)) ≤ 1) [
             | true ↦ λ e.
-                let same = same_address a b e in
+                let same = addr_eq-one a b e in
                 let none_b : count_by (is_held_by b) places ≡ 0 = ap (λ c. count_by (is_held_by c) places) (sym same) ∙ nowhere in
                 let one : ◌≡◌ {A = ℕ} (cond (is_held_by b (Some a)) 1 0) 1 = rw e refl in
                 omega (arith, counts b, one, none_b)
@@ -142,9 +137,9 @@ held_here places a m h =
           (i, at, (position-Some (is_held_by a) places i None e).1)
     ] refl h
 
-same_holder : (place : Option Addr) (a b : Addr) → is_held_by a place ≡ true → is_held_by b place ≡ true → b ≡ a
+pub same_holder : (place : Option Addr) (a b : Addr) → is_held_by a place ≡ true → is_held_by b place ≡ true → b ≡ a
 same_holder None a b h g = cc
-same_holder (Some c) a b h g = sym (same_address c b g) ∙ same_address c a h
+same_holder (Some c) a b h g = sym (addr_eq-one c b g) ∙ addr_eq-one c a h
 
 pub distinct_marks : (places : List (Option Addr)) (a b : Addr) (m : ℕ) → mark_of places a ≡ Some m → mark_of places b ≡ Some m → b ≡ a
 distinct_marks places a b m h g =

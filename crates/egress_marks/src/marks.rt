@@ -1,14 +1,17 @@
-ghost use Rattle.std.specs.Prelude.{◌≡◌, ◌≤◌, ◌<◌, ℕ, length, None, Some, IfOk, IfSome, IsNone, IsSome, is_some, count_by, position, is_none, if◌then◌else◌};
+ghost use Rattle.std.specs.Prelude.{◌≡◌, ◌≢◌, ◌+◌, ◌≤◌, ◌<◌, ℕ, length, None, Some, IfOk, IfSome, IsNone, IsSome, is_some, count_by, position, is_none, if◌then◌else◌};
 ghost use Rattle.std.specs.List.{position_or_len};
 ghost use Rattle.cl_types.specs.declared.addr.Addr.{Addr};
-ghost use Rattle.egress_marks.specs.Places.{no_marks, IsFree, IsHeld, IsMarks, is_held_by, mark_of, least_free, marked, freed};
+ghost use Rattle.egress_marks.specs.Places.{greatest_mark, no_marks, IsFree, IsHeld, IsMarks, is_held_by, mark_of, least_free, marked, freed};
 
 use cl_types::{Addr, Copies, NoMemory};
-use std::alloc::Global;
+use std::alloc::{AllocError, Global};
 use std::marker::Model;
 
+// A place for each mark.
+const PLACES: usize = 255;
+
 /// The marks of addresses, from 1 to 255. Each mark is held by one address at most, and each address holds
-/// one mark at most. The places of all marks are there from the start.
+/// one mark at most.
 #[derive(Debug, Drop)]
 pub struct Marks {
     places: Vec<Option<Addr>>,
@@ -37,44 +40,50 @@ fn is_held_by(place: &Option<Addr>, a: Addr) -> bool
 }
 
 impl Marks {
-    /// All marks free.
+    /// All marks are free. The places of all marks are allocated here.
     pub fn new(alloc: Global) -> Result<Marks, NoMemory>
         ensures places { IfOk result (λ marks. marks ≡ no_marks) }
         ensures none { IfOk result (λ marks. (a : Addr) → mark_of marks a ≡ None) }
         ensures empty { IfOk result (λ marks. count_by is_some marks ≡ 0) }
     {
         Ok(Marks {
-            places: vec![in alloc; None; 255]?,
+            places: vec![in alloc; None; PLACES]?,
         })
     }
 
-    /// Gives the least free mark to an address that has none. It takes no memory.
+    /// Gives the least free mark to an address that has none.
     pub fn take(&mut self, a: Addr) -> u8
         requires none { IsNone (mark_of self.old a) }
-        requires few { count_by is_some self.old < 255 }
+        requires few { count_by is_some self.old < greatest_mark }
         ensures free { IsFree self.old result }
         ensures smaller_held { (m : ℕ) → 1 ≤ m → m < result → IsHeld self.old m }
         ensures answer { result ≡ least_free self.old }
         ensures marks { self.new ≡ marked self.old a }
+        ensures own { mark_of self.new a ≡ Some result }
+        ensures others { (b : Addr) → b ≢ a → mark_of self.new b ≡ mark_of self.old b }
+        ensures count { count_by is_some self.new ≡ count_by is_some self.old + 1 }
     {
         let place = first_free(self.places.as_slice());
         self.places[place] = Some(a);
         (place + 1) as u8
     }
 
-    /// Takes an address's mark back. It takes no memory.
+    /// Frees the mark of an address.
     pub fn give(&mut self, a: Addr)
         requires held { IsSome (mark_of self.old a) }
-        ensures { self.new ≡ freed self.old a }
+        ensures marks { self.new ≡ freed self.old a }
+        ensures own { mark_of self.new a ≡ None }
+        ensures others { (b : Addr) → b ≢ a → mark_of self.new b ≡ mark_of self.old b }
+        ensures count { count_by is_some self.new + 1 ≡ count_by is_some self.old }
     {
         free_places(&mut self.places, a);
     }
 
-    /// The mark of an address. It takes no memory.
+    /// The mark of an address.
     pub fn mark_of(&self, a: Addr) -> Option<u8>
         ensures answer { result ≡ mark_of self.now a }
         ensures distinct { IfSome result (λ m. (b : Addr) → mark_of self.now b ≡ Some m → b ≡ a) }
-        ensures in_range { IfSome result (λ m. (1 ≤ m) × (m ≤ 255)) }
+        ensures in_range { IfSome result (λ m. (1 ≤ m) × (m ≤ greatest_mark)) }
         ensures kept { IsMarks self.now }
     {
         let place = place_of(self.places.as_slice(), a)?;
@@ -82,12 +91,18 @@ impl Marks {
     }
 }
 
-impl Copies for Marks {
-    fn copy(&self) -> Result<Marks, NoMemory> {
+impl Clone for Marks {
+    ghost is_clone = { λ marks copy. copy ≡ marks };
+
+    fn clone(&self) -> Result<Marks, AllocError> {
         Ok(Marks {
             places: Vec::from_slice(*self.places.allocator(), self.places.as_slice())?,
         })
     }
+}
+
+impl Copies for Marks {
+    ghost exact = { λ x y h. h };
 }
 
 fn first_free(places: &[Option<Addr>]) -> usize

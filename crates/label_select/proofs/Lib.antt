@@ -4,4 +4,3 @@ pub mod GroupTexts
 pub mod Listings
 pub mod NameBytes
 pub mod SetLabels
-pub mod SortedSets

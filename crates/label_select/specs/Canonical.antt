@@ -1,13 +1,14 @@
 -- The canonical form of a selector's needs (this project's own, so that selectors of one meaning written in
 -- another order are one group).
-use Rattle.std.specs.Prelude.{ℕ, List, [], ◌∷◌, map}
+use Rattle.std.specs.Prelude.{ℕ, List, map}
 use Rattle.std.specs.List.{AllByRecursion}
 use Rattle.std.specs.declared.cmp.Ordering.{Ordering}
 use Rattle.std.specs.Ordering.{ordering_then, nat_cmp}
 use Rattle.std.specs.Cmp.{IsTotalOrder}
 use Rattle.std.specs.Cmp.Lexicographic.{slice_cmp}
-use Rattle.std.proofs.lemmas.Cmp.{on_total, then_total, lists_total, nat_cmp_total, nat_list_cmp_total}
-use Rattle.cl_types.specs.Ascending.{Ascends, put}
+use Rattle.std.proofs.lemmas.Cmp.{on_total, then_total, lists_total, nat_cmp_total}
+use Rattle.cl_types.specs.Ascending.{Ascends, sorted_set}
+use Rattle.cl_types.specs.Text.{text_order, text_order_total}
 use Rattle.label_select.specs.declared.selector.Op.{Op}
 use Rattle.label_select.specs.declared.selector.Op.TheVariants.{OneOf, NoneOf, Present, Missing}
 use Rattle.label_select.specs.Selection.{Requirement, Selection, IsNeed}
@@ -19,10 +20,6 @@ op_place NoneOf = 1
 op_place Present = 2
 op_place Missing = 3
 
--- texts by their bytes
-abbrev pub text_order : List ℕ → List ℕ → Ordering
-text_order = slice_cmp nat_cmp
-
 -- needs by key, then operator, then values
 abbrev pub need_order : Requirement → Requirement → Ordering
 need_order a b =
@@ -31,13 +28,8 @@ need_order a b =
 
 pub need_order_total : IsTotalOrder need_order
 need_order_total =
-    then_total (on_total (λ (n : Requirement). n.key) nat_list_cmp_total)
-    (then_total (on_total (λ (n : Requirement). op_place n.op) nat_cmp_total) (on_total (λ (n : Requirement). n.values) (lists_total nat_list_cmp_total)))
-
--- the elements in ascending order, each once
-abbrev pub sorted_set : {T : Type 0} → (T → T → Ordering) → List T → List T
-sorted_set cmp [] = []
-sorted_set cmp (x ∷ xs) = put (λ y. cmp y x) x (sorted_set cmp xs)
+    then_total (on_total (λ (n : Requirement). n.key) text_order_total)
+    (then_total (on_total (λ (n : Requirement). op_place n.op) nat_cmp_total) (on_total (λ (n : Requirement). n.values) (lists_total text_order_total)))
 
 -- the need with its values in order
 abbrev pub with_sorted_values : Requirement → Requirement

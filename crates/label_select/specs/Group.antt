@@ -1,6 +1,6 @@
 -- Groups of pods (this project's own keys of Antrea's address groups and applied-to groups).
 use Rattle.std.specs.Prelude.{ℕ, List, Bool, ◌&&◌, IsTrue}
-use Rattle.cl_types.specs.Equality.{text_eq}
+use Rattle.cl_types.specs.Text.{text_eq}
 use Rattle.label_select.specs.declared.labels.Label.{Label}
 use Rattle.label_select.specs.declared.group.Scope.{Scope}
 use Rattle.label_select.specs.declared.group.Scope.TheVariants.{Namespace, Namespaces}

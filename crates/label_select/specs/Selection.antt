@@ -2,10 +2,8 @@
 use Rattle.std.specs.Prelude.{◌≡◌, ℕ, List, length, Bool, true, false, not, ◌==◌, IsTrue, Option, option_map}
 use Rattle.std.specs.List.{list_all, list_any}
 use Rattle.std.specs.Option.{option_map_or}
-use Rattle.std.specs.Ordering.{nat_cmp}
-use Rattle.std.specs.Cmp.Lexicographic.{slice_cmp}
 use Rattle.cl_types.specs.Ascending.{found, put}
-use Rattle.cl_types.specs.Equality.{text_eq}
+use Rattle.cl_types.specs.Text.{text_eq, text_order}
 use Rattle.label_select.specs.declared.labels.Label.{Label}
 use Rattle.label_select.specs.declared.selector.Op.{Op}
 use Rattle.label_select.specs.declared.selector.Op.TheVariants.{OneOf, NoneOf, Present, Missing}
@@ -17,12 +15,11 @@ pub record Requirement : Type 0 where
   pub op : Op
   pub values : List (List ℕ)
 
--- In and NotIn have values, Exists and DoesNotExist have none
+-- In and NotIn have values, the others have none
 abbrev pub takes_values : Op → Bool
 takes_values OneOf = true
 takes_values NoneOf = true
-takes_values Present = false
-takes_values Missing = false
+takes_values _ = false
 
 -- what a need keeps: the forms of its key and its values, and values exactly where its operator takes them
 pub record IsNeed (need : Requirement) : Type 0 where
@@ -36,11 +33,11 @@ pub record Selection : Type 0 where
 
 -- the value that the labels have at a key
 abbrev pub value_at : List Label → List ℕ → Option (List ℕ)
-value_at labels key = option_map (λ (l : Label). l.value) (found (λ (l : Label). slice_cmp nat_cmp l.key key) labels)
+value_at labels key = option_map (λ (l : Label). l.value) (found (λ (l : Label). text_order l.key key) labels)
 
 -- the labels with this value at the key
 abbrev pub put_label : List Label → List ℕ → List ℕ → List Label
-put_label labels key value = put (λ (l : Label). slice_cmp nat_cmp l.key key) (record { key = key; value = value }) labels
+put_label labels key value = put (λ (l : Label). text_order l.key key) (record { key = key; value = value }) labels
 
 -- whether there is a value at the key, and it is one of these
 abbrev pub has_one_of : Option (List ℕ) → List (List ℕ) → Bool

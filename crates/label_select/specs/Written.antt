@@ -2,6 +2,7 @@
 -- selectors).
 use Rattle.std.specs.Prelude.{ℕ, List, ◌++◌, map, codes}
 use Rattle.std.specs.List.{join_with_byte}
+use Rattle.cl_types.specs.Bytes.{comma}
 use Rattle.label_select.specs.declared.selector.Op.{Op}
 use Rattle.label_select.specs.declared.selector.Op.TheVariants.{OneOf, NoneOf, Present, Missing}
 use Rattle.label_select.specs.declared.group.Scope.{Scope}
@@ -11,7 +12,7 @@ use Rattle.label_select.specs.Group.{Group}
 
 -- `A,B`
 abbrev pub listed : List (List ℕ) → List ℕ
-listed texts = join_with_byte 44 texts
+listed texts = join_with_byte comma texts
 
 -- `KEY in (A,B)`, `KEY notin (A,B)`, `KEY` and `!KEY`
 abbrev pub op_text : Op → List ℕ → List (List ℕ) → List ℕ

@@ -1,9 +1,10 @@
 ghost use Rattle.std.specs.Prelude.{◌≡◌, List as Items, IfOk, OnOk};
 ghost use Rattle.std.specs.List.{list_all};
 ghost use Rattle.std.specs.declared.cmp.Ordering.TheVariants.{Equal};
+ghost use Rattle.cl_types.specs.Ascending.{sorted_set};
 ghost use Rattle.label_select.specs.declared.labels.Label.{Label};
 ghost use Rattle.label_select.specs.Selection.{IsNeed, meets, selects};
-ghost use Rattle.label_select.specs.Canonical.{IsSelection, sorted_set, with_sorted_values, canonical};
+ghost use Rattle.label_select.specs.Canonical.{IsSelection, with_sorted_values, canonical};
 
 use crate::selector::{Need, Selector};
 use cl_types::{List, NoMemory};

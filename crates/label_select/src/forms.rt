@@ -1,10 +1,18 @@
 //! The forms of names and labels.
-ghost use Rattle.std.specs.Prelude.{◌≡◌, ◌≢◌, ◌==◌, ℕ, true, All, List, []};
+ghost use Rattle.std.specs.Prelude.{◌≡◌, ◌≢◌, ◌==◌, ℕ, true, List, []};
 ghost use Rattle.std.specs.List.{list_all, slice_split, position};
 ghost use Rattle.std.specs.Char.{is_ascii_alphanumeric};
+ghost use Rattle.cl_types.specs.Bytes.{dot, slash};
+ghost use Rattle.cl_types.specs.PolicyName.{HasNoSlash};
 ghost use Rattle.label_select.specs.Forms.{is_small, is_part_byte, is_label_byte, ends_pass, is_part, is_namespace_name, is_object_name, is_name_part, is_label_key, is_label_value};
 
 use cl_types::Text;
+
+// How many bytes a namespace's name and a label's name have at most.
+const LONGEST_PART: usize = 63;
+
+// How many bytes every other object's name has at most.
+const LONGEST_NAME: usize = 253;
 
 /// Whether a namespace can have this name: 1 to 63 of `a` to `z`, `0` to `9` and `-`, with a letter or
 /// digit at both ends.
@@ -12,7 +20,7 @@ use cl_types::Text;
 pub fn is_namespace_name(text: &[u8]) -> bool
     ensures { result ≡ is_namespace_name text.now }
 {
-    text.len() <= 63 && is_part(text)
+    text.len() <= LONGEST_PART && is_part(text)
 }
 
 /// Whether an object that is no namespace can have this name: at most 253 bytes, and between its dots the
@@ -21,11 +29,11 @@ pub fn is_namespace_name(text: &[u8]) -> bool
 pub fn is_object_name(text: &[u8]) -> bool
     ensures { result ≡ is_object_name text.now }
 {
-    text.len() <= 253 && is_joined_parts(text)
+    text.len() <= LONGEST_NAME && is_joined_parts(text)
 }
 
 fn is_joined_parts(text: &[u8]) -> bool
-    ensures { result ≡ list_all is_part (slice_split (λ b. b == 46) text.now) }
+    ensures { result ≡ list_all is_part (slice_split (λ b. b == dot) text.now) }
 {
     text.split(|b| *b == b'.').all(|part| is_part(part))
 }
@@ -43,7 +51,7 @@ pub fn is_label_key(text: &[u8]) -> bool
 }
 
 fn slash(text: &[u8]) -> Option<usize>
-    ensures { result ≡ position (λ b. b == 47) text.now }
+    ensures { result ≡ position (λ b. b == slash) text.now }
 {
     text.iter().position(|b| *b == b'/')
 }
@@ -80,7 +88,7 @@ fn has_part_bytes(text: &[u8]) -> bool
 fn is_name_part(text: &[u8]) -> bool
     ensures { result ≡ is_name_part text.now }
 {
-    text.len() <= 63 && has_label_bytes(text) && begins_and_ends_alphanumeric(text)
+    text.len() <= LONGEST_PART && has_label_bytes(text) && begins_and_ends_alphanumeric(text)
 }
 
 fn has_label_bytes(text: &[u8]) -> bool
@@ -127,6 +135,6 @@ fn is_label_byte(b: u8) -> bool
 
 /// No name has a `/`, and a namespace's name isn't empty.
 pub fn names_have_no_slash()
-    ensures namespaces { (text : List ℕ) → is_namespace_name text ≡ true → All (λ b. b ≢ 47) text × (text ≢ []) }
-    ensures objects { (text : List ℕ) → is_object_name text ≡ true → All (λ b. b ≢ 47) text }
+    ensures namespaces { (text : List ℕ) → is_namespace_name text ≡ true → HasNoSlash text × (text ≢ []) }
+    ensures objects { (text : List ℕ) → is_object_name text ≡ true → HasNoSlash text }
 {}

@@ -1,3 +1,5 @@
+ghost use Rattle.std.proofs.Common.{rules};
+ghost use Rattle.std.proofs.lemmas.Grind.{common_steps};
 ghost use Rattle.std.specs.Prelude.{◌≡◌};
 ghost use Rattle.label_select.specs.Group.{group_has};
 
@@ -7,19 +9,14 @@ use cl_types::{Copies, NoMemory, Same, Text};
 use std::marker::Model;
 
 /// The namespaces of a group's pods: one by its name, or all that a selector selects.
-#[derive(Debug, Drop)]
+#[derive(Clone, Debug, Drop)]
 pub enum Scope {
     Namespace(Text),
     Namespaces(Selector),
 }
 
 impl Copies for Scope {
-    fn copy(&self) -> Result<Scope, NoMemory> {
-        match self {
-            Scope::Namespace(name) => Ok(Scope::Namespace(name.copy()?)),
-            Scope::Namespaces(selector) => Ok(Scope::Namespaces(selector.copy()?)),
-        }
-    }
+    ghost exact = { λ x y h. Prim.search (rules, common_steps) };
 }
 
 impl Same for Scope {
@@ -34,7 +31,7 @@ impl Same for Scope {
 
 /// A group of pods: those in the scope that the selector selects. A scope by name has the form of a
 /// namespace's name.
-#[derive(Debug, Drop)]
+#[derive(Clone, Debug, Drop)]
 pub struct GroupKey {
     pub scope: Scope,
     pub pods: Selector,
@@ -51,8 +48,8 @@ impl Model for GroupKey {
 }
 
 impl GroupKey {
-    /// Whether a pod with these labels in this namespace is in the group, if it counts. The labels of the
-    /// namespace are those that a scope by selector looks at. It takes no memory.
+    /// Whether the group contains a pod with these labels in this namespace, if the pod counts. A scope by
+    /// selector selects by the labels of the namespace.
     pub fn has(&self, namespace: &Text, ns_labels: &Labels, labels: &Labels) -> bool
         ensures { result ≡ group_has self.now namespace.now ns_labels.now labels.now }
     {
@@ -65,12 +62,7 @@ impl GroupKey {
 }
 
 impl Copies for GroupKey {
-    fn copy(&self) -> Result<GroupKey, NoMemory> {
-        Ok(GroupKey {
-            scope: self.scope.copy()?,
-            pods: self.pods.copy()?,
-        })
-    }
+    ghost exact = { λ x y h. Prim.search (rules, common_steps) };
 }
 
 impl Same for GroupKey {

@@ -1,14 +1,13 @@
-ghost use Rattle.std.specs.Prelude.{◌≡◌, [], IfOk, IsTrue, ◌↔◌, OnOk, OnErr, option_copied};
-ghost use Rattle.std.specs.Ordering.{nat_cmp};
-ghost use Rattle.std.specs.Cmp.Lexicographic.{slice_cmp};
-ghost use Rattle.cl_types.specs.Ascending.{put};
+ghost use Rattle.std.proofs.Common.{rules};
+ghost use Rattle.std.proofs.lemmas.Grind.{common_steps};
+ghost use Rattle.std.specs.Prelude.{◌≡◌, ◌≢◌, ℕ, List as Items, [], OnOk, OnErr, option_copied};
 
 use cl_types::{Copies, Keyed, List, NoMemory, Same, Text};
 use std::alloc::Global;
 use std::marker::Model;
 
 /// One label of an object: a key and its value.
-#[derive(Debug, Drop)]
+#[derive(Clone, Debug, Drop)]
 pub struct Label {
     pub key: Text,
     pub value: Text,
@@ -25,12 +24,7 @@ impl Keyed for Label {
 }
 
 impl Copies for Label {
-    fn copy(&self) -> Result<Label, NoMemory> {
-        Ok(Label {
-            key: self.key.copy()?,
-            value: self.value.copy()?,
-        })
-    }
+    ghost exact = { λ x y h. Prim.search (rules, common_steps) };
 }
 
 impl Same for Label {
@@ -40,15 +34,14 @@ impl Same for Label {
 }
 
 /// The labels of an object: a finite map of texts.
-#[derive(Debug, Drop)]
+#[derive(Clone, Debug, Drop)]
 pub struct Labels {
     labels: List<Label>,
 }
 
 impl Model for Labels {
     ghost use Rattle.std.specs.Prelude.{List};
-    ghost use Rattle.std.specs.Ordering.{nat_cmp};
-    ghost use Rattle.std.specs.Cmp.Lexicographic.{slice_cmp};
+    ghost use Rattle.cl_types.specs.Text.{text_order};
     ghost use Rattle.cl_types.specs.Ascending.{Ascends};
     ghost use Rattle.label_select.specs.declared.labels.Label.{Label};
 
@@ -56,13 +49,13 @@ impl Model for Labels {
 
     ghost view = { λ l. l.labels };
 
-    ghost invariant = { λ l. Ascends (λ (x : Label). x.key) (slice_cmp nat_cmp) l.labels };
+    ghost invariant = { λ l. Ascends (λ (x : Label). x.key) (text_order) l.labels };
 }
 
 impl Labels {
     ghost use Rattle.label_select.specs.Selection.{value_at, put_label};
 
-    /// No labels. It takes no memory.
+    /// No labels. It does not allocate.
     pub fn new(alloc: Global) -> Labels
         ensures { result ≡ [] }
     {
@@ -79,9 +72,11 @@ impl Labels {
         Some(&label.value)
     }
 
-    /// Sets one label.
+    /// Inserts a label, in place of the one with its key.
     pub fn put(&mut self, key: Text, value: Text) -> Result<(), NoMemory>
         ensures ok { OnOk result (self.new ≡ put_label self.old key value) }
+        ensures there { OnOk result (value_at self.new key ≡ Some value) }
+        ensures others { OnOk result ((k : Items ℕ) → k ≢ key → value_at self.new k ≡ value_at self.old k) }
         ensures err { OnErr result (self.new ≡ self.old) }
     {
         cl_types::put(self.labels.vec_mut(), Label { key, value })
@@ -89,11 +84,7 @@ impl Labels {
 }
 
 impl Copies for Labels {
-    fn copy(&self) -> Result<Labels, NoMemory> {
-        Ok(Labels {
-            labels: self.labels.copy()?,
-        })
-    }
+    ghost exact = { λ x y h. Prim.search (rules, common_steps) };
 }
 
 impl Same for Labels {

@@ -6,7 +6,7 @@ use crate::selector::{Need, Selector};
 use cl_types::Text;
 
 impl Selector {
-    /// Whether it selects what has these labels and one more, which is set over them. It takes no memory.
+    /// Whether it selects what has these labels and one more, which is set over them.
     pub fn selects_with(&self, labels: Option<&Labels>, key: &[u8], value: &Text) -> bool
         ensures { result ≡ selects self.now (put_label (unwrap_or (option_copied labels.entry) []) key.now value.now) }
     {

@@ -1,8 +1,10 @@
+ghost use Rattle.std.proofs.Common.{rules};
+ghost use Rattle.std.proofs.lemmas.Grind.{common_steps};
 ghost use Rattle.std.specs.Prelude.{◌≡◌, refl, option_copied};
 ghost use Rattle.std.specs.List.{list_any};
 ghost use Rattle.std.specs.Ordering.{as_partial_cmp, eq_by_cmp};
 ghost use Rattle.std.specs.Cmp.{partial_order_from_agreeing_total, partial_equiv_from_equiv, eq_by_cmp_equiv};
-ghost use Rattle.cl_types.specs.Equality.{text_eq};
+ghost use Rattle.cl_types.specs.Text.{text_eq};
 ghost use Rattle.label_select.specs.Selection.{meets_op, takes_values, has_one_of, meets, selects};
 ghost use Rattle.label_select.specs.Canonical.{op_place, need_order, need_order_total};
 
@@ -45,7 +47,7 @@ impl Op {
 
 /// One requirement of a selector. Key and values have the forms of labels; `OneOf` and `NoneOf` have a
 /// value, `Present` and `Missing` have none.
-#[derive(Debug, Drop)]
+#[derive(Clone, Debug, Drop)]
 pub struct Need {
     pub key: Text,
     pub op: Op,
@@ -140,13 +142,7 @@ impl Eq for Need {
 }
 
 impl Copies for Need {
-    fn copy(&self) -> Result<Need, NoMemory> {
-        Ok(Need {
-            key: self.key.copy()?,
-            op: self.op,
-            values: self.values.copy()?,
-        })
-    }
+    ghost exact = { λ x y h. Prim.search (rules, common_steps) };
 }
 
 impl Same for Need {
@@ -157,7 +153,7 @@ impl Same for Need {
 
 /// Needs that hold together, in canonical form: sorted by key, operator and values, none twice, and the
 /// values of each sorted, none twice. [`crate::canon`] makes one. Without needs it selects everything.
-#[derive(Debug, Drop)]
+#[derive(Clone, Debug, Drop)]
 pub struct Selector {
     pub needs: List<Need>,
 }
@@ -174,7 +170,7 @@ impl Model for Selector {
 }
 
 impl Selector {
-    /// Whether it selects what has these labels. It takes no memory.
+    /// Whether it selects what has these labels.
     pub fn selects(&self, labels: &Labels) -> bool
         ensures { result ≡ selects self.now labels.now }
     {
@@ -183,11 +179,7 @@ impl Selector {
 }
 
 impl Copies for Selector {
-    fn copy(&self) -> Result<Selector, NoMemory> {
-        Ok(Selector {
-            needs: self.needs.copy()?,
-        })
-    }
+    ghost exact = { λ x y h. Prim.search (rules, common_steps) };
 }
 
 impl Same for Selector {

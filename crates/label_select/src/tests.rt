@@ -106,10 +106,6 @@ fn selectors_and_labels(rt: HostRuntime) {
     }
 }
 
-fn copies<T: Copies + Same + Drop>(value: &T) -> Result<bool, NoMemory> {
-    Ok(value.copy()?.same(value))
-}
-
 fn any_app(rt: &impl Abort, alloc: Global) -> Result<Need, NoMemory> {
     Ok(need(rt, text(alloc, b"app")?, Op::Present, List::new(alloc)))
 }
@@ -136,7 +132,6 @@ fn order_of_needs(rt: HostRuntime) {
     );
     let back = made(&rt, both(alloc, env, app));
     assert!(rt; there.same(&back));
-    assert!(rt; made(&rt, copies(&there)));
 }
 
 fn in_shop(rt: &impl Abort, alloc: Global) -> Result<GroupKey, NoMemory> {
@@ -174,7 +169,6 @@ fn members_by_name(rt: HostRuntime) {
     let none = Labels::new(alloc);
     assert!(rt; group.has(&made(&rt, text(alloc, b"shop")), &none, &none));
     assert!(rt; !group.has(&made(&rt, text(alloc, b"till")), &none, &none));
-    assert!(rt; made(&rt, copies(&group)));
 }
 
 #[test]
@@ -187,7 +181,6 @@ fn members_by_labels(rt: HostRuntime) {
     assert!(rt; group.has(&name, &team, &job));
     assert!(rt; !group.has(&name, &job, &job));
     assert!(rt; !group.has(&name, &team, &team));
-    assert!(rt; made(&rt, copies(&group)) && made(&rt, copies(&team)));
 }
 
 #[test]
@@ -233,4 +226,36 @@ fn lengths(rt: HostRuntime) -> Result<(), Fail> {
     assert!(rt; is_label_key(&text[..63]) && !is_label_key(&text[..64]));
     assert!(rt; is_label_value(&text[..63]) && !is_label_value(&text[..64]));
     Ok(())
+}
+
+// Whether the value and its copy are one value.
+fn copied<T: Copies + Same + Drop>(value: Result<T, NoMemory>) -> Result<bool, NoMemory> {
+    let value = value?;
+    Ok(value.copy()?.same(&value))
+}
+
+fn one_label(alloc: Global) -> Result<Label, NoMemory> {
+    Ok(Label {
+        key: text(alloc, b"app")?,
+        value: text(alloc, b"web")?,
+    })
+}
+
+#[test]
+fn copies_are_the_same(rt: HostRuntime) {
+    let alloc = rt.alloc();
+    let rows = [
+        ("label", copied(one_label(alloc))),
+        ("labels", copied(label(alloc, b"app", b"web"))),
+        ("need", copied(any_app(&rt, alloc))),
+        (
+            "selector",
+            copied(selector(&rt, alloc, b"app", Op::NoneOf, &[b"web", b"job"])),
+        ),
+        ("group of a namespace", copied(in_shop(&rt, alloc))),
+        ("group of selected namespaces", copied(in_teams(&rt, alloc))),
+    ];
+    for (name, answer) in rows {
+        assert!(rt; answer == Ok(true), "{name}");
+    }
 }

@@ -1,91 +1,81 @@
 //! The texts of groups.
-ghost use Rattle.std.specs.Prelude.{◌≡◌, ℕ, List as Items, ◌++◌, map, codes, OnOk, OnErr};
+ghost use Rattle.std.specs.Prelude.{◌≡◌, ◌++◌, map, codes, OnOk, OnErr};
+ghost use Rattle.cl_types.specs.Written.{Begins};
 ghost use Rattle.label_select.specs.Canonical.{IsSelection};
 ghost use Rattle.label_select.specs.Group.{Group, IsScope, IsWholeScope, IsGroup};
 ghost use Rattle.label_select.specs.Written.{listed, need_text, selector_text, scope_text, group_text};
 
 use crate::group::{GroupKey, Scope};
 use crate::selector::{Need, Op, Selector};
-use cl_types::{NoMemory, Text};
-
-/// What has a text.
-trait Written {
-    ghost text: { Self → Items ℕ };
-
-    fn write(&self, out: &mut Vec<u8>) -> Result<(), NoMemory>
-        ensures { OnOk result (out.new.items ≡ out.old.items ++ text self.now) };
-}
-
-impl Written for Text {
-    ghost text = { λ t. t };
-
-    fn write(&self, out: &mut Vec<u8>) -> Result<(), NoMemory> {
-        out.extend_from_slice(self.as_slice())?;
-        Ok(())
-    }
-}
+use cl_types::{NoMemory, Text, Written, write_bytes};
 
 impl Written for Need {
     ghost text = { need_text };
 
-    fn write(&self, out: &mut Vec<u8>) -> Result<(), NoMemory> {
+    fn append(&self, out: &mut Text) -> Result<(), NoMemory> {
         match self.op {
-            Op::OneOf => write_values(out, &self.key, b" in (", self.values.as_slice()),
-            Op::NoneOf => write_values(out, &self.key, b" notin (", self.values.as_slice()),
+            Op::OneOf => append_values(out, &self.key, b" in (", self.values.as_slice()),
+            Op::NoneOf => append_values(out, &self.key, b" notin (", self.values.as_slice()),
             Op::Present => self.key.write(out),
             Op::Missing => {
-                out.push(b'!')?;
+                write_bytes(out, b"!")?;
                 self.key.write(out)
             }
         }
     }
 }
 
-fn write_values(
-    out: &mut Vec<u8>,
-    key: &Text,
-    words: &[u8],
-    values: &[Text],
-) -> Result<(), NoMemory>
-    ensures { OnOk result (out.new.items ≡ out.old.items ++ (key.now ++ (words.now ++ (listed values.now ++ codes ")")))) }
+fn append_values(out: &mut Text, key: &Text, words: &[u8], values: &[Text]) -> Result<(), NoMemory>
+    ensures ok { OnOk result (out.new ≡ out.old ++ (key.now ++ (words.now ++ (listed values.now ++ codes ")")))) }
+    ensures err { OnErr result (Begins out.old out.new) }
 {
     key.write(out)?;
-    out.extend_from_slice(words)?;
-    write_listed(out, values)?;
-    out.push(b')')?;
-    Ok(())
+    write_bytes(out, words)?;
+    append_listed(out, values)?;
+    write_bytes(out, b")")
 }
 
-fn write_listed<T: Written>(out: &mut Vec<u8>, items: &[T]) -> Result<(), NoMemory>
-    ensures { OnOk result (out.new.items ≡ out.old.items ++ listed (map T.text items.now)) }
+fn append_listed<T: Written>(out: &mut Text, items: &[T]) -> Result<(), NoMemory>
+    ensures ok { OnOk result (out.new ≡ out.old ++ listed (map T.text items.now)) }
+    ensures err { OnErr result (Begins out.old out.new) }
 {
     for (i, item) in items.iter().enumerate() {
         if i > 0 {
-            out.push(b',')?;
+            write_bytes(out, b",")?;
         }
-        item.write(out)?;
+        item.append(out)?;
     }
     Ok(())
 }
 
-fn write_selector(out: &mut Vec<u8>, selector: &Selector) -> Result<(), NoMemory>
-    ensures text { OnOk result (out.new.items ≡ out.old.items ++ selector_text selector.now) }
-    ensures form { IsSelection selector.now }
-{
-    let needs = selector.needs.as_slice();
-    out.push(b'[')?;
-    write_listed(out, needs)?;
-    out.push(b']')?;
-    Ok(())
+impl Written for Selector {
+    ghost text = { selector_text };
+
+    fn append(&self, out: &mut Text) -> Result<(), NoMemory> {
+        write_bytes(out, b"[")?;
+        append_listed(out, self.needs.as_slice())?;
+        write_bytes(out, b"]")
+    }
 }
 
-fn write_scope(out: &mut Vec<u8>, scope: &Scope) -> Result<(), NoMemory>
-    ensures text { OnOk result (out.new.items ≡ out.old.items ++ scope_text scope.now) }
-    ensures form { IsScope scope.now → IsWholeScope scope.now }
-{
-    match scope {
-        Scope::Namespace(name) => name.write(out),
-        Scope::Namespaces(selector) => write_selector(out, selector),
+impl Written for Scope {
+    ghost text = { scope_text };
+
+    fn append(&self, out: &mut Text) -> Result<(), NoMemory> {
+        match self {
+            Scope::Namespace(name) => name.write(out),
+            Scope::Namespaces(selector) => selector.append(out),
+        }
+    }
+}
+
+impl Written for GroupKey {
+    ghost text = { group_text };
+
+    fn append(&self, out: &mut Text) -> Result<(), NoMemory> {
+        self.scope.append(out)?;
+        write_bytes(out, b"/")?;
+        self.pods.append(out)
     }
 }
 
@@ -96,13 +86,30 @@ pub fn write_group(out: &mut Text, g: &GroupKey) -> Result<(), NoMemory>
     ensures err { OnErr result (out.new ≡ out.old) }
     ensures form { OnOk result (IsGroup g.now) }
 {
-    let bytes = out.vec_mut();
-    let mut text = Vec::new(*bytes.allocator());
-    write_scope(&mut text, &g.scope)?;
-    text.push(b'/')?;
-    write_selector(&mut text, &g.pods)?;
-    bytes.extend_from_slice(text.as_slice())?;
-    Ok(())
+    group_form(g);
+    g.write(out)
+}
+
+// What the parts of a group keep.
+fn group_form(g: &GroupKey)
+    ensures { IsGroup g.now }
+{
+    scope_form(&g.scope);
+    selector_form(&g.pods);
+}
+
+fn scope_form(scope: &Scope)
+    ensures { IsScope scope.now → IsWholeScope scope.now }
+{
+    if let Scope::Namespaces(selector) = scope {
+        selector_form(selector);
+    }
+}
+
+fn selector_form(selector: &Selector)
+    ensures { IsSelection selector.now }
+{
+    let _needs = &selector.needs;
 }
 
 /// Different groups have different texts.

@@ -1,44 +1,13 @@
 ghost use Rattle.std.specs.Prelude.{◌≡◌, ◌++◌, ◌&&◌, List, Some, filter, option_copied};
 ghost use Rattle.cluster_objects.specs.declared.policy.Rule.{Rule};
-ghost use Rattle.cluster_objects.specs.Evaluation.{applies, rule_has, rule_key, rules_with, is_isolated};
-ghost use Rattle.cluster_objects.specs.Steps.{is_kube, in_stage, earlier, first};
-ghost use Rattle.cluster_objects.specs.Objects.{isolates};
-ghost use Rattle.policy_order.specs.Stages.{stage_of};
+ghost use Rattle.cluster_objects.specs.Evaluation.{applies, rule_matches, rule_key, rules_with, is_isolated};
+ghost use Rattle.cluster_objects.specs.Steps.{in_stage, first};
+ghost use Rattle.cluster_objects.specs.Policy.{isolates};
 
-use crate::peers::peers_have;
-use crate::services::services_have;
-use cl_types::{Dir, PolicyKind, Question, rule_cmp};
-use cluster_objects::{Cluster, Pod, Policy, Rule};
-
-/// The stages in which rules are looked at.
-#[derive(Clone, Copy)]
-pub(crate) enum Stage {
-    Native,
-    Kubernetes,
-    Baseline,
-}
-
-const BASELINE_TIER: u16 = 253;
-
-fn is_kube(kind: PolicyKind) -> bool
-    ensures { result ≡ is_kube kind }
-{
-    match kind {
-        PolicyKind::Cluster => false,
-        PolicyKind::Antrea => false,
-        PolicyKind::Kube => true,
-    }
-}
-
-fn in_stage(stage: Stage, policy: &Policy, rule: &Rule) -> bool
-    ensures { result ≡ in_stage (stage_of stage) policy.now.key.kind rule.now.key }
-{
-    match stage {
-        Stage::Native => !is_kube(policy.key.kind) && rule.key.tier != BASELINE_TIER,
-        Stage::Kubernetes => is_kube(policy.key.kind),
-        Stage::Baseline => !is_kube(policy.key.kind) && rule.key.tier == BASELINE_TIER,
-    }
-}
+use crate::peers::peers_contain;
+use crate::services::services_match;
+use cl_types::{Dir, Question};
+use cluster_objects::{Cluster, Pod, Policy, Rule, Stage, earlier, is_kube};
 
 fn applies(c: &Cluster, policy: &Policy, pod: &Pod) -> bool
     ensures { result ≡ applies c.now policy.now pod.now }
@@ -50,26 +19,16 @@ fn applies(c: &Cluster, policy: &Policy, pod: &Pod) -> bool
         .any(|group| c.in_group(group, pod))
 }
 
-fn rule_has(c: &Cluster, policy: &Policy, rule: &Rule, pod: &Pod, q: &Question) -> bool
-    ensures { result ≡ rule_has c.now policy.now rule.now pod.now q.now }
+fn rule_matches(c: &Cluster, policy: &Policy, rule: &Rule, pod: &Pod, q: &Question) -> bool
+    ensures { result ≡ rule_matches c.now policy.now rule.now pod.now q.now }
 {
     rule.key.dir.is(q.dir)
         && applies(c, policy, pod)
-        && peers_have(c, q.peer, &rule.peers)
-        && services_have(c, rule, pod, q)
+        && peers_contain(c, q.peer, &rule.peers)
+        && services_match(c, rule, pod, q)
 }
 
-// Of two rules the one that is looked at first.
-fn earlier<'c>(rule: &'c Rule, other: Option<&'c Rule>) -> &'c Rule
-    ensures { result.now ≡ earlier rule_key rule.now (option_copied other.entry) }
-{
-    match other {
-        Some(other) if rule_cmp(&rule.key, &other.key).is_gt() => other,
-        _ => rule,
-    }
-}
-
-// The first of the policy's rules of the stage that have the question, and of those after them.
+// The first of the policy's rules of the stage that match the question, and of those after them.
 fn first_of_policy<'c>(
     c: &Cluster,
     policy: &'c Policy,
@@ -79,7 +38,7 @@ fn first_of_policy<'c>(
     after: Option<&'c Rule>,
 ) -> Option<&'c Rule>
     ensures { (later : List Rule) → option_copied after.entry ≡ first rule_key later
-        → option_copied result ≡ first rule_key (filter (λ r. in_stage (stage_of stage) policy.now.key.kind r.key && rule_has c.now policy.now r pod.now q.now) policy.now.rules ++ later) }
+        → option_copied result ≡ first rule_key (filter (λ r. in_stage stage policy.now.key.kind r.key && rule_matches c.now policy.now r pod.now q.now) policy.now.rules ++ later) }
 {
     let rules = policy.rules.as_slice();
     let mut found = after;
@@ -100,19 +59,19 @@ fn is_wanted(
     q: &Question,
     stage: Stage,
 ) -> bool
-    ensures { result ≡ (in_stage (stage_of stage) policy.now.key.kind rule.now.key && rule_has c.now policy.now rule.now pod.now q.now) }
+    ensures { result ≡ (in_stage stage policy.now.key.kind rule.now.key && rule_matches c.now policy.now rule.now pod.now q.now) }
 {
-    in_stage(stage, policy, rule) && rule_has(c, policy, rule, pod, q)
+    stage.includes(policy.key.kind, &rule.key) && rule_matches(c, policy, rule, pod, q)
 }
 
-/// The first of the rules of the stage that have the question of the pod.
+/// The first of the rules of the stage that match the question of the pod.
 pub(crate) fn first_rule<'c>(
     c: &'c Cluster,
     pod: &Pod,
     q: &Question,
     stage: Stage,
 ) -> Option<&'c Rule>
-    ensures { option_copied result ≡ first rule_key (rules_with c.now pod.now q.now (stage_of stage)) }
+    ensures { option_copied result ≡ first rule_key (rules_with c.now pod.now q.now stage) }
 {
     let policies = c.policies().as_slice();
     let mut found = None;

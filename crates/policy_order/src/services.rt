@@ -1,13 +1,14 @@
 ghost use Rattle.std.specs.Prelude.{◌≡◌, ◌&&◌};
 ghost use Rattle.std.specs.List.{list_any};
-ghost use Rattle.cluster_objects.specs.Evaluation.{service_has, is_port, defines, name_has, services_have, has_address, peers_have_pod};
+ghost use Rattle.cluster_objects.specs.Evaluation.{service_matches, is_port, defines, name_matches, services_match, peers_contain_pod};
+ghost use Rattle.cluster_objects.specs.Pod.{has_address};
 
-use crate::peers::peers_have_pod;
+use crate::peers::peers_contain_pod;
 use cl_types::{Dir, NamedPort, PortName, Question, Service};
 use cluster_objects::{Cluster, Pod, Rule};
 
-fn service_has(q: &Question, service: &Service) -> bool
-    ensures { result ≡ service_has q.now service.now }
+fn service_matches(q: &Question, service: &Service) -> bool
+    ensures { result ≡ service_matches q.now service.now }
 {
     service.proto.is(q.proto) && service.lo <= q.port && q.port <= service.hi
 }
@@ -31,15 +32,15 @@ fn any_is_port(q: &Question, name: &PortName, ports: &[NamedPort]) -> bool
 }
 
 fn peer_defines(c: &Cluster, rule: &Rule, q: &Question, name: &PortName) -> bool
-    ensures { result ≡ list_any (λ d. has_address q.now.peer d && peers_have_pod c.now d rule.now.peers && defines q.now name.now d) c.now.pods }
+    ensures { result ≡ list_any (λ d. has_address q.now.peer d && peers_contain_pod c.now d rule.now.peers && defines q.now name.now d) c.now.pods }
 {
     c.pods().as_slice().iter().any(|pod| pod.has_address(q.peer)
-        && peers_have_pod(c, pod, &rule.peers)
+        && peers_contain_pod(c, pod, &rule.peers)
         && defines(q, name, pod))
 }
 
-fn name_has(c: &Cluster, rule: &Rule, pod: &Pod, q: &Question, name: &PortName) -> bool
-    ensures { result ≡ name_has c.now rule.now pod.now q.now name.now }
+fn name_matches(c: &Cluster, rule: &Rule, pod: &Pod, q: &Question, name: &PortName) -> bool
+    ensures { result ≡ name_matches c.now rule.now pod.now q.now name.now }
 {
     match q.dir {
         Dir::Ingress => defines(q, name, pod),
@@ -47,27 +48,28 @@ fn name_has(c: &Cluster, rule: &Rule, pod: &Pod, q: &Question, name: &PortName) 
     }
 }
 
-fn names_have(c: &Cluster, rule: &Rule, pod: &Pod, q: &Question) -> bool
-    ensures { result ≡ list_any (name_has c.now rule.now pod.now q.now) rule.now.named }
+fn names_match(c: &Cluster, rule: &Rule, pod: &Pod, q: &Question) -> bool
+    ensures { result ≡ list_any (name_matches c.now rule.now pod.now q.now) rule.now.named }
 {
     rule.named
         .as_slice()
         .iter()
-        .any(|name| name_has(c, rule, pod, q, name))
+        .any(|name| name_matches(c, rule, pod, q, name))
 }
 
-/// Whether a rule has the traffic of the question.
-pub(crate) fn services_have(c: &Cluster, rule: &Rule, pod: &Pod, q: &Question) -> bool
-    ensures { result ≡ services_have c.now rule.now pod.now q.now rule.now.services }
+/// Whether a rule matches the traffic of the question.
+pub(crate) fn services_match(c: &Cluster, rule: &Rule, pod: &Pod, q: &Question) -> bool
+    ensures { result ≡ services_match c.now rule.now pod.now q.now rule.now.services }
 {
     match &rule.services {
         None => true,
-        Some(services) => any_service_has(q, services.as_slice()) || names_have(c, rule, pod, q),
+        Some(services) => any_service_matches(q, services.as_slice())
+            || names_match(c, rule, pod, q),
     }
 }
 
-fn any_service_has(q: &Question, services: &[Service]) -> bool
-    ensures { result ≡ list_any (service_has q.now) services.now }
+fn any_service_matches(q: &Question, services: &[Service]) -> bool
+    ensures { result ≡ list_any (service_matches q.now) services.now }
 {
-    services.iter().any(|service| service_has(q, service))
+    services.iter().any(|service| service_matches(q, service))
 }

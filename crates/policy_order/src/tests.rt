@@ -1,16 +1,14 @@
 ghost use Rattle.std.specs.Prelude.{◌≡◌, ◌≢◌, [], ◌∷◌};
+ghost use Rattle.cl_types.specs.declared.addr.Addr.TheVariants.{V4, V6};
 ghost use Rattle.cl_types.specs.PolicyName.{HasNoSlash};
-ghost use Rattle.cluster_objects.specs.Objects.{IsBaseline};
+ghost use Rattle.cluster_objects.specs.Policy.{IsBaseline};
 
 use crate::judge;
 use cl_types::{
-    Action, Addr, AgentOrder, Copies, Dir, List, NamedPort, PodKey, PolicyKey, PolicyKind,
-    PortName, Prefix, Proto, Question, RuleKey, Same, Service, Text, write_judged,
+    Action, Addr, Copies, Dir, List, NamedPort, PodKey, PolicyKey, PolicyKind, PortName, Prefix,
+    Proto, Question, RuleKey, Service, Text, write_judged,
 };
-use cluster_objects::{
-    Block, Change, Cluster, ClusterRefusal, EgressObj, Namespace, NodeInfo, Object, Peer, Pod,
-    Policy, Rule,
-};
+use cluster_objects::{Block, Change, Cluster, NAME_LABEL, Object, Peer, Pod, Policy, Rule};
 use label_select::{
     GroupKey, Labels, Need, Op, Scope, Selector, are_label_values, canon, is_label_key,
     is_namespace_name,
@@ -50,35 +48,67 @@ fn in_default(rt: &impl Abort, alloc: Global, pods: Selector) -> GroupKey {
     GroupKey { scope, pods }
 }
 
-// A pod of the namespace `default` on the node `n1`, whose label `app` is its name.
-fn pod(rt: &impl Abort, alloc: Global, name: &[u8], address: u32) -> Pod {
+// A pod of the namespace `default` on the node `n1`, whose label `app` is its name. It has the IPv6 address
+// whose number is that of its IPv4 address, and a port `http` of tcp.
+fn pod(rt: &impl Abort, alloc: Global, name: &[u8], address: u32, http: u16) -> Pod {
     let mut labels = Labels::new(alloc);
     labels
         .put(text(rt, alloc, b"app"), text(rt, alloc, name))
         .expect(rt, "memory");
+    let port = NamedPort {
+        name: text(rt, alloc, b"http"),
+        proto: Proto::Tcp,
+        port: http,
+    };
     Pod {
         key: PodKey {
             namespace: text(rt, alloc, b"default"),
             name: text(rt, alloc, name),
         },
         node: text(rt, alloc, b"n1"),
-        addresses: one(rt, alloc, Addr::V4(address)),
+        addresses: both(rt, alloc, address),
         host: false,
         ended: false,
         labels,
-        ports: List::new(alloc),
+        ports: one(rt, alloc, port),
     }
+}
+
+fn both(rt: &impl Abort, alloc: Global, address: u32) -> List<Addr>
+    ensures { result ≡ V4 address ∷ V6 address ∷ [] }
+{
+    let mut addresses = Vec::with_capacity(alloc, 2).expect(rt, "memory");
+    addresses.push(Addr::V4(address)).expect(rt, "memory");
+    addresses
+        .push(Addr::V6(address.into()))
+        .expect(rt, "memory");
+    List::of(addresses)
+}
+
+// Selects the namespace of the name, by the label that every namespace has.
+fn namespace_is(rt: &impl Abort, alloc: Global, name: &[u8]) -> Selector {
+    let key = text(rt, alloc, NAME_LABEL);
+    let values = one(rt, alloc, text(rt, alloc, name));
+    assert!(rt; is_label_key(key.as_slice()));
+    assert!(rt; are_label_values(values.as_slice()));
+    assert!(rt; !values.as_slice().is_empty());
+    let op = Op::OneOf;
+    canon(alloc, one(rt, alloc, Need { key, op, values })).expect(rt, "memory")
 }
 
 const WEB: u32 = 0x0a0a_0105;
 
 const CLI: u32 = 0x0a0a_0106;
 
+const HOST: u32 = 0x0a0a_0109;
+
 // The peers of a rule.
 #[derive(Clone, Copy)]
 enum Peers {
     All,
     App(&'static [u8]),
+    /// The pods of a namespace whose label `app` has the value.
+    AppIn(&'static [u8], &'static [u8]),
     /// 10.10.1.0/24 without the address.
     Without(u32),
     Never,
@@ -88,6 +118,10 @@ fn peers_of(rt: &impl Abort, alloc: Global, peers: Peers) -> Option<List<Peer>> 
     let peer = match peers {
         Peers::All => return None,
         Peers::App(name) => Peer::Group(in_default(rt, alloc, app_is(rt, alloc, name))),
+        Peers::AppIn(namespace, name) => Peer::Group(GroupKey {
+            scope: Scope::Namespaces(namespace_is(rt, alloc, namespace)),
+            pods: app_is(rt, alloc, name),
+        }),
         Peers::Without(address) => Peer::Block(Block {
             cidr: Prefix {
                 base: Addr::V4(0x0a0a_0100),
@@ -105,6 +139,8 @@ fn peers_of(rt: &impl Abort, alloc: Global, peers: Peers) -> Option<List<Peer>> 
 enum Ports {
     All,
     Some(Proto, u16, u16),
+    /// The port that the destination names so.
+    Named(&'static [u8]),
 }
 
 fn services_of(rt: &impl Abort, alloc: Global, ports: Ports) -> Option<List<Service>> {
@@ -114,6 +150,18 @@ fn services_of(rt: &impl Abort, alloc: Global, ports: Ports) -> Option<List<Serv
             assert!(rt; lo <= hi);
             Some(one(rt, alloc, Service { proto, lo, hi }))
         }
+        Ports::Named(_) => Some(List::new(alloc)),
+    }
+}
+
+fn names_of(rt: &impl Abort, alloc: Global, ports: Ports) -> List<PortName> {
+    match ports {
+        Ports::Named(name) => {
+            let name = text(rt, alloc, name);
+            let proto = Proto::Tcp;
+            one(rt, alloc, PortName { name, proto })
+        }
+        _ => List::new(alloc),
     }
 }
 
@@ -159,7 +207,7 @@ fn rule(rt: &impl Abort, alloc: Global, policy: &PolicyKey, parts: Parts) -> Rul
         action: parts.action,
         peers: peers_of(rt, alloc, parts.peers),
         services: services_of(rt, alloc, parts.ports),
-        named: List::new(alloc),
+        named: names_of(rt, alloc, parts.ports),
     }
 }
 
@@ -282,32 +330,46 @@ fn policy(rt: &impl Abort, alloc: Global, given: Given) -> Policy {
     }
 }
 
-// A change is made as its copy.
 fn put(rt: &impl Abort, c: &mut Cluster, object: Object) {
-    let change = Change::Put(object).copy().expect(rt, "memory");
-    assert!(rt; c.try_apply(change).is_ok());
+    assert!(rt; c.try_apply(Change::Put(object)).is_ok());
 }
 
-// The verdict on tcp from `cli` to `web` at the port, as it is printed. It is asked of a copy of the cluster.
-fn verdict(rt: &impl Abort, alloc: Global, given: &[Given], port: u16) -> Text {
+// `web` and `cli` on the node `n1`, and a pod `host` there on the host's network.
+fn cluster(rt: &impl Abort, alloc: Global, given: &[Given]) -> Cluster {
     let mut c = Cluster::new(alloc).expect(rt, "memory");
-    put(rt, &mut c, Object::Pod(pod(rt, alloc, b"web", WEB)));
-    put(rt, &mut c, Object::Pod(pod(rt, alloc, b"cli", CLI)));
+    put(rt, &mut c, Object::Pod(pod(rt, alloc, b"web", WEB, 80)));
+    put(rt, &mut c, Object::Pod(pod(rt, alloc, b"cli", CLI, 8080)));
+    let mut host = pod(rt, alloc, b"host", HOST, 80);
+    host.host = true;
+    put(rt, &mut c, Object::Pod(host));
     for policy_given in given {
         put(rt, &mut c, Object::Policy(policy(rt, alloc, *policy_given)));
     }
-    let question = Question {
-        dir: Dir::Ingress,
-        own: Addr::V4(WEB),
-        peer: Addr::V4(CLI),
+    c
+}
+
+fn said_at(rt: &impl Abort, c: &Cluster, alloc: Global, node: &[u8], q: &Question) -> Text {
+    let mut out = Text::new(alloc);
+    let node = text(rt, alloc, node);
+    write_judged(&mut out, &judge(c, &node, q)).expect(rt, "memory");
+    out
+}
+
+// A question of tcp.
+fn tcp(dir: Dir, own: Addr, peer: Addr, port: u16) -> Question {
+    Question {
+        dir,
+        own,
+        peer,
         proto: Proto::Tcp,
         port,
-    };
-    let mut out = Text::new(alloc);
-    let copied = c.copy().expect(rt, "memory");
-    let judged = judge(&copied, &text(rt, alloc, b"n1"), &question);
-    write_judged(&mut out, &judged).expect(rt, "memory");
-    out
+    }
+}
+
+// The verdict on tcp from `cli` to `web` at the port, as it is printed.
+fn verdict(rt: &impl Abort, alloc: Global, given: &[Given], port: u16) -> Text {
+    let question = tcp(Dir::Ingress, Addr::V4(WEB), Addr::V4(CLI), port);
+    said_at(rt, &cluster(rt, alloc, given), alloc, b"n1", &question)
 }
 
 const DROP_ALL: Given = Given::Second(Action::Drop, Dir::Ingress, Peers::All, Ports::All);
@@ -369,7 +431,7 @@ fn three_steps_of_a_verdict(rt: HostRuntime) {
     }
 }
 
-// The direction, the peers and the ports of a rule, and whether it has tcp from `cli` to `web` at port 80.
+// The direction, the peers and the ports of a rule, and whether it matches tcp from `cli` to `web` at port 80.
 const RULES: &[(Dir, Peers, Ports, bool)] = &[
     (Dir::Ingress, Peers::All, Ports::All, true),
     (Dir::Egress, Peers::All, Ports::All, false),
@@ -399,15 +461,15 @@ const RULES: &[(Dir, Peers, Ports, bool)] = &[
 ];
 
 #[test]
-fn rules_that_have_the_traffic(rt: HostRuntime) {
-    for (dir, peers, ports, has) in RULES {
+fn rules_that_match_the_traffic(rt: HostRuntime) {
+    for (dir, peers, ports, matches) in RULES {
         let said = verdict(
             &rt,
             rt.alloc(),
             &[Given::Second(Action::Drop, *dir, *peers, *ports)],
             80,
         );
-        let wanted: &[u8] = if *has {
+        let wanted: &[u8] = if *matches {
             b"drop by acnp:second ingress[0]"
         } else {
             b"allow by default"
@@ -416,83 +478,162 @@ fn rules_that_have_the_traffic(rt: HostRuntime) {
     }
 }
 
-const RULE_WITH_BLOCK: Given = Given::Second(
-    Action::Drop,
-    Dir::Egress,
-    Peers::Without(CLI),
-    Ports::Some(Proto::Udp, 53, 53),
-);
+const IN: Dir = Dir::Ingress;
 
-fn is_copied<T: Copies + Same + Drop>(rt: &impl Abort, value: &T) -> bool {
-    value.copy().expect(rt, "memory").same(value)
-}
+const OUT: Dir = Dir::Egress;
+
+// The direction, the peers and the ports of a rule that drops, a question of tcp on the node, and whether the
+// rule matches it.
+const QUESTIONS: &[(Dir, Peers, Ports, Addr, Addr, u16, &[u8], bool)] = &[
+    // Egress looks at the peer's labels, and not at its own.
+    (
+        OUT,
+        Peers::App(b"web"),
+        Ports::All,
+        Addr::V4(CLI),
+        Addr::V4(WEB),
+        80,
+        b"n1",
+        true,
+    ),
+    (
+        OUT,
+        Peers::App(b"cli"),
+        Ports::All,
+        Addr::V4(CLI),
+        Addr::V4(WEB),
+        80,
+        b"n1",
+        false,
+    ),
+    // The destination names the port: on ingress the pod itself, on egress its peer.
+    (
+        IN,
+        Peers::All,
+        Ports::Named(b"http"),
+        Addr::V4(WEB),
+        Addr::V4(CLI),
+        80,
+        b"n1",
+        true,
+    ),
+    (
+        IN,
+        Peers::All,
+        Ports::Named(b"http"),
+        Addr::V4(WEB),
+        Addr::V4(CLI),
+        8080,
+        b"n1",
+        false,
+    ),
+    (
+        OUT,
+        Peers::All,
+        Ports::Named(b"http"),
+        Addr::V4(CLI),
+        Addr::V4(WEB),
+        80,
+        b"n1",
+        true,
+    ),
+    (
+        OUT,
+        Peers::All,
+        Ports::Named(b"http"),
+        Addr::V4(CLI),
+        Addr::V4(WEB),
+        8080,
+        b"n1",
+        false,
+    ),
+    // Namespaces are selected by the label that has their name.
+    (
+        IN,
+        Peers::AppIn(b"default", b"cli"),
+        Ports::All,
+        Addr::V4(WEB),
+        Addr::V4(CLI),
+        80,
+        b"n1",
+        true,
+    ),
+    (
+        IN,
+        Peers::AppIn(b"shop", b"cli"),
+        Ports::All,
+        Addr::V4(WEB),
+        Addr::V4(CLI),
+        80,
+        b"n1",
+        false,
+    ),
+    // Both addresses of a pod are its own.
+    (
+        IN,
+        Peers::App(b"cli"),
+        Ports::All,
+        Addr::V6(0x0a0a_0105),
+        Addr::V6(0x0a0a_0106),
+        80,
+        b"n1",
+        true,
+    ),
+    (
+        IN,
+        Peers::App(b"web"),
+        Ports::All,
+        Addr::V6(0x0a0a_0105),
+        Addr::V6(0x0a0a_0106),
+        80,
+        b"n1",
+        false,
+    ),
+    // A pod on the host's network is in no group, and its ports have no names.
+    (
+        IN,
+        Peers::App(b"host"),
+        Ports::All,
+        Addr::V4(WEB),
+        Addr::V4(HOST),
+        80,
+        b"n1",
+        false,
+    ),
+    (
+        OUT,
+        Peers::All,
+        Ports::Named(b"http"),
+        Addr::V4(CLI),
+        Addr::V4(HOST),
+        80,
+        b"n1",
+        false,
+    ),
+    // Of another node's pods nothing is said.
+    (
+        IN,
+        Peers::All,
+        Ports::All,
+        Addr::V4(WEB),
+        Addr::V4(CLI),
+        80,
+        b"n2",
+        false,
+    ),
+];
 
 #[test]
-fn copies_of_objects(rt: HostRuntime) {
-    let node = NodeInfo {
-        name: text(&rt, rt.alloc(), b"n1"),
-        cidr: Prefix {
-            base: Addr::V4(0x0a0a_0100),
-            len: 24,
-        },
-        cidr6: None,
-    };
-    assert!(rt; is_copied(&rt, &node));
-    assert!(rt; is_copied(&rt, &pod(&rt, rt.alloc(), b"web", WEB)));
-    assert!(rt; is_copied(&rt, &policy(&rt, rt.alloc(), Given::WebIn)));
-    assert!(rt; is_copied(&rt, &policy(&rt, rt.alloc(), RULE_WITH_BLOCK)));
-}
-
-#[test]
-fn copies_of_named_ports_and_orders(rt: HostRuntime) {
-    let port = NamedPort {
-        name: text(&rt, rt.alloc(), b"http"),
-        proto: Proto::Tcp,
-        port: 8080,
-    };
-    assert!(rt; is_copied(&rt, &one(&rt, rt.alloc(), port)));
-    let name = PortName {
-        name: text(&rt, rt.alloc(), b"http"),
-        proto: Proto::Tcp,
-    };
-    assert!(rt; is_copied(&rt, &one(&rt, rt.alloc(), name)));
-    let words = one(&rt, rt.alloc(), text(&rt, rt.alloc(), b"get"));
-    match (AgentOrder::Antctl(words)).copy().expect(&rt, "memory") {
-        AgentOrder::Antctl(copied) => assert_eq!(rt;
-            copied.as_slice()[0].as_slice(),
-            b"get".as_slice()
-        ),
-        _ => assert!(rt; false),
-    }
-}
-
-#[test]
-fn copies_of_egresses_and_namespaces(rt: HostRuntime) {
-    let egress = EgressObj {
-        name: text(&rt, rt.alloc(), b"out"),
-        address: Addr::V4(0x0a0a_0a0a),
-        node: text(&rt, rt.alloc(), b"n1"),
-        applied: all_pods(&rt, rt.alloc()),
-    };
-    let copied = egress.copy().expect(&rt, "memory");
-    assert!(rt; copied.name == egress.name && copied.node == egress.node);
-    assert!(rt; copied.address == egress.address && copied.applied.same(&egress.applied));
-    let namespace = Namespace {
-        name: text(&rt, rt.alloc(), b"default"),
-        labels: Labels::new(rt.alloc()),
-    };
-    let copied = namespace.copy().expect(&rt, "memory");
-    assert!(rt; copied.name == namespace.name && copied.labels.same(&namespace.labels));
-}
-
-#[test]
-fn copy_of_a_refusal(rt: HostRuntime) {
-    let mut c = Cluster::new(rt.alloc()).expect(&rt, "memory");
-    put(&rt, &mut c, Object::Pod(pod(&rt, rt.alloc(), b"web", WEB)));
-    let other = Object::Pod(pod(&rt, rt.alloc(), b"cli", WEB));
-    let refusal = c.try_apply(Change::Put(other)).expect_err(&rt, "a refusal");
-    match refusal.copy().expect(&rt, "memory") {
-        ClusterRefusal::AddressInUse(key) => assert_eq!(rt; key.name.as_slice(), b"web".as_slice()),
-        _ => assert!(rt; false),
+fn questions_of_both_directions_and_families(rt: HostRuntime) {
+    for (dir, peers, ports, own, peer, port, node, matches) in QUESTIONS {
+        let given = [Given::Second(Action::Drop, *dir, *peers, *ports)];
+        let c = cluster(&rt, rt.alloc(), &given);
+        let said = said_at(&rt, &c, rt.alloc(), node, &tcp(*dir, *own, *peer, *port));
+        let wanted: &[u8] = match (*matches, *dir) {
+            (false, _) => b"allow by default",
+            (true, Dir::Ingress) => b"drop by acnp:second ingress[0]",
+            (true, Dir::Egress) => b"drop by acnp:second egress[0]",
+        };
+        assert_eq!(rt; said.as_slice(), wanted);
     }
 }

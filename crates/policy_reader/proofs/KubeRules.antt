@@ -8,17 +8,17 @@ use Rattle.std.specs.declared.cmp.Ordering.TheVariants.{Less}
 use Rattle.serde_json.specs.Data.{Data}
 use Rattle.cl_types.specs.declared.keys.Dir.{Dir}
 use Rattle.cl_types.specs.declared.keys.Dir.TheVariants.{Ingress}
-use Rattle.cl_types.specs.declared.traffic.Action.TheVariants.{Allow}
+use Rattle.cl_types.specs.declared.verdict.Action.TheVariants.{Allow}
 use Rattle.cl_types.specs.declared.keys.PolicyKind.{PolicyKind}
 use Rattle.cl_types.specs.declared.keys.PolicyKind.TheVariants.{Kube}
 use Rattle.cl_types.specs.Ascending.{Ascends}
 use Rattle.cl_types.specs.PolicyName.{PolicyName}
-use Rattle.cl_types.specs.RuleOrder.{dir_place}
-use Rattle.cl_types.specs.Traffic.{PortRange}
+use Rattle.cl_types.specs.Dir.{dir_place}
+use Rattle.cl_types.specs.Service.{PortRange}
 use Rattle.label_select.specs.Group.{Group}
 use Rattle.cluster_objects.specs.declared.policy.Peer.{Peer}
 use Rattle.cluster_objects.specs.declared.policy.Rule.{Rule}
-use Rattle.cluster_objects.specs.Objects.{PolicyData, place_order, IsRuleOf, isolates, IsKubeRule, IsPolicyOfKind, IsPolicy}
+use Rattle.cluster_objects.specs.Policy.{PolicyData, place_order, IsRuleOf, isolates, IsKubeRule, IsPolicyOfKind, IsPolicy}
 use Rattle.policy_reader.specs.declared.item.ReadRefusal.{ReadRefusal}
 use Rattle.policy_reader.specs.declared.item.ReadRefusal.TheVariants.{NotBuilt}
 use Rattle.policy_reader.specs.Item.{◌>>=◌, Gives}

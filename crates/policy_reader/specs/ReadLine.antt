@@ -4,12 +4,13 @@ use Rattle.std.specs.Prelude.{ℕ, List, [], Bool, ◌&&◌, ◌||◌, ◌==◌,
 use Rattle.std.specs.List.{list_all}
 use Rattle.std.specs.Option.{option_map_or}
 use Rattle.serde_json.specs.Data.{Data}
+use Rattle.cl_types.specs.Bytes.{slash}
 use Rattle.cl_types.specs.declared.addr.Addr.{Addr}
 use Rattle.cl_types.specs.declared.keys.Dir.{Dir}
-use Rattle.cl_types.specs.declared.traffic.Proto.{Proto}
-use Rattle.cl_types.specs.declared.traffic.Proto.TheVariants.{Tcp, Udp, Sctp, Icmp}
-use Rattle.cl_types.specs.declared.traffic.Question.{Question}
-use Rattle.cl_types.specs.Equality.{text_eq}
+use Rattle.cl_types.specs.declared.service.Proto.{Proto}
+use Rattle.cl_types.specs.declared.service.Proto.TheVariants.{Tcp, Udp, Sctp, Icmp}
+use Rattle.cl_types.specs.declared.question.Question.{Question}
+use Rattle.cl_types.specs.Text.{text_eq}
 use Rattle.cluster_objects.specs.declared.change.Change.TheVariants.{Put}
 use Rattle.cluster_objects.specs.declared.change.Object.TheVariants as object
 use Rattle.policy_reader.specs.declared.item.Control.TheVariants.{Ask}
@@ -26,7 +27,7 @@ use Rattle.policy_reader.specs.Texts.{address_of_text, question_protocol, direct
 
 -- the text before the first `/`, empty where there is none
 abbrev pub group_of : List ℕ → List ℕ
-group_of version = option_map_or (λ i. take i version) (position (λ b. b == 47) version) []
+group_of version = option_map_or (λ i. take i version) (position (λ b. b == slash) version) []
 
 abbrev pub group_in : Option Data → Result (List ℕ) ReadRefusal
 group_in None = Ok []

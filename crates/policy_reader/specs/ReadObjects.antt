@@ -9,14 +9,14 @@ use Rattle.cl_types.specs.declared.addr.Addr.{Addr}
 use Rattle.cl_types.specs.declared.keys.Dir.TheVariants.{Ingress}
 use Rattle.cl_types.specs.declared.keys.PodKey.{PodKey}
 use Rattle.cl_types.specs.declared.keys.PolicyKind.TheVariants.{Kube}
-use Rattle.cl_types.specs.declared.traffic.Action.TheVariants.{Allow}
-use Rattle.cl_types.specs.declared.traffic.Proto.{Proto}
-use Rattle.cl_types.specs.declared.traffic.Proto.TheVariants.{Tcp}
+use Rattle.cl_types.specs.declared.verdict.Action.TheVariants.{Allow}
+use Rattle.cl_types.specs.declared.service.Proto.{Proto}
+use Rattle.cl_types.specs.declared.service.Proto.TheVariants.{Tcp}
 use Rattle.cl_types.specs.Ascending.{Ascends}
-use Rattle.cl_types.specs.Equality.{text_eq}
+use Rattle.cl_types.specs.Text.{text_eq}
 use Rattle.cl_types.specs.PolicyName.{PolicyName}
 use Rattle.cl_types.specs.Prefix.{Block}
-use Rattle.cl_types.specs.Traffic.{PortRange}
+use Rattle.cl_types.specs.Service.{PortRange}
 use Rattle.label_select.specs.declared.group.Scope.TheVariants.{Namespace}
 use Rattle.label_select.specs.declared.labels.Label.{Label}
 use Rattle.label_select.specs.declared.selector.Op.TheVariants.{OneOf}
@@ -26,7 +26,9 @@ use Rattle.label_select.specs.Selection.{Requirement, Selection, put_label}
 use Rattle.cluster_objects.specs.declared.policy.Peer.{Peer}
 use Rattle.cluster_objects.specs.declared.policy.Peer.TheVariants as peer
 use Rattle.cluster_objects.specs.declared.policy.Rule.{Rule}
-use Rattle.cluster_objects.specs.Objects.{NodeData, PodData, PolicyData, place_order}
+use Rattle.cluster_objects.specs.Node.{NodeData}
+use Rattle.cluster_objects.specs.Pod.{PodData}
+use Rattle.cluster_objects.specs.Policy.{PolicyData, place_order}
 use Rattle.policy_reader.specs.declared.item.ReadRefusal.{ReadRefusal}
 use Rattle.policy_reader.specs.declared.item.ReadRefusal.TheVariants.{NotBuilt}
 use Rattle.policy_reader.specs.declared.pods.PodSpec.{PodSpec}

@@ -1,38 +1,31 @@
 -- What some texts mean: addresses and blocks of IPv4, protocols and forms of names.
-use Rattle.std.specs.Prelude.{ℕ, zero, suc, ◌^◌, ◌++◌, ◌&&◌, List, Bool, nat_le, Option, Some, None, codes, if◌then◌else◌}
-use Rattle.std.specs.Fmt.{decimal}
+use Rattle.std.specs.Prelude.{ℕ, ◌&&◌, List, Bool, true, false, nat_le, Option, Some, None, codes, if◌then◌else◌}
 use Rattle.cl_types.specs.declared.addr.Addr.{Addr}
-use Rattle.cl_types.specs.declared.addr.Addr.TheVariants.{V4}
-use Rattle.cl_types.specs.declared.traffic.Proto.{Proto}
-use Rattle.cl_types.specs.declared.traffic.Proto.TheVariants.{Tcp, Udp, Sctp, Icmp}
+use Rattle.cl_types.specs.declared.addr.Addr.TheVariants.{V4, V6}
+use Rattle.cl_types.specs.declared.service.Proto.{Proto}
+use Rattle.cl_types.specs.declared.service.Proto.TheVariants.{Tcp, Udp, Sctp, Icmp}
 use Rattle.cl_types.specs.declared.keys.Dir.{Dir}
 use Rattle.cl_types.specs.declared.keys.Dir.TheVariants.{Ingress, Egress}
-use Rattle.cl_types.specs.Equality.{text_eq}
-use Rattle.cl_types.specs.Prefix.{Block, cleared}
-use Rattle.cl_types.specs.Written.{address_text}
+use Rattle.cl_types.specs.Text.{text_eq}
+use Rattle.cl_types.specs.Prefix.{Block}
+use Rattle.cl_types.specs.ReadText.{read_address, read_block}
 
-abbrev pub or_else : {X : Type 0} → Option X → Option X → Option X
-or_else None other = other
-or_else (Some x) other = Some x
+abbrev pub is_four : Addr → Bool
+is_four (V4 n) = true
+is_four (V6 n) = false
 
--- what the first number below n that has something has
-unfoldable pub first_below : {X : Type 0} → ℕ → (ℕ → Option X) → Option X
-first_below zero f = None
-first_below (suc n) f = or_else (first_below n f) (f n)
+-- what was read, where it is of IPv4
+abbrev pub where_four : {X : Type 0} → (X → Addr) → Option X → Option X
+where_four base None = None
+where_four base (Some x) = if is_four (base x) then Some x else None
 
--- x where the two texts are one
-abbrev pub where_same : {X : Type 0} → List ℕ → List ℕ → X → Option X
-where_same a b x = if text_eq a b then Some x else None
-
--- the IPv4 address that is written so
+-- the IPv4 address that the text is a form of
 unfoldable pub address_of_text : List ℕ → Option Addr
-address_of_text text = first_below (2 ^ 32) (λ n. where_same (address_text (V4 n)) text (V4 n))
+address_of_text text = where_four (λ a. a) (read_address text)
 
--- the block that is written so: an IPv4 address, `/` and a length, the bits past the length cleared
+-- the IPv4 block that the text is a form of
 unfoldable pub block_of_text : List ℕ → Option Block
-block_of_text text =
-    first_below 33 (λ len. first_below (2 ^ 32) (λ n.
-    where_same (address_text (V4 n) ++ (codes "/" ++ decimal len)) text (record { base = cleared (V4 n) len; len = len })))
+block_of_text text = where_four (λ (b : Block). b.base) (read_block text)
 
 -- a node's block has a length of 8 to 30
 abbrev pub is_node_length : Block → Bool

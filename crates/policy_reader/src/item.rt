@@ -1,4 +1,6 @@
 //! What a line of the input is.
+ghost use Rattle.std.proofs.Common.{rules};
+ghost use Rattle.std.proofs.lemmas.Grind.{common_steps};
 ghost use Rattle.std.specs.Prelude.{◌≡◌, IfOk};
 ghost use Rattle.policy_reader.specs.declared.item.ReadRefusal.TheVariants.{NoMemory as no_memory};
 
@@ -8,25 +10,18 @@ use std::alloc::{AllocError, AllocFailed};
 use thiserror::Error;
 
 /// What a control line orders.
-#[derive(Debug, Drop)]
+#[derive(Clone, Debug, Drop)]
 pub enum Control {
     /// A question about the policies' own verdict, for the pods of a node.
     Ask { node: Text, question: Question },
 }
 
 impl Copies for Control {
-    fn copy(&self) -> Result<Control, NoMemory> {
-        match self {
-            Control::Ask { node, question } => Ok(Control::Ask {
-                node: node.copy()?,
-                question: *question,
-            }),
-        }
-    }
+    ghost exact = { λ x y h. Prim.search (rules, common_steps) };
 }
 
 /// What a line says.
-#[derive(Debug, Drop)]
+#[derive(Clone, Debug, Drop)]
 pub enum LineItem {
     Object(Change),
     Control(Control),
@@ -34,13 +29,7 @@ pub enum LineItem {
 }
 
 impl Copies for LineItem {
-    fn copy(&self) -> Result<LineItem, NoMemory> {
-        match self {
-            LineItem::Object(change) => Ok(LineItem::Object(change.copy()?)),
-            LineItem::Control(control) => Ok(LineItem::Control(control.copy()?)),
-            LineItem::Blank => Ok(LineItem::Blank),
-        }
-    }
+    ghost exact = { λ x y h. Prim.search (rules, common_steps) };
 }
 
 /// Why a line can't be read.

@@ -15,3 +15,6 @@ mod texts;
 
 pub use item::{Control, LineItem, ReadRefusal};
 pub use reader::read_line;
+
+#[cfg(test)]
+mod tests;

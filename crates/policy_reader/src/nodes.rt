@@ -5,7 +5,7 @@ ghost use Rattle.policy_reader.specs.Item.{Gives};
 ghost use Rattle.policy_reader.specs.ReadObjects.{each, has_no_colon, text_in, texts_in, cidr_texts, node_block, read_node};
 ghost use Rattle.policy_reader.specs.Fields.{text_of};
 ghost use Rattle.policy_reader.specs.Texts.{is_node_length};
-ghost use Rattle.cluster_objects.specs.Objects.{IsNode};
+ghost use Rattle.cluster_objects.specs.Node.{IsNode};
 
 use crate::item::ReadRefusal;
 use crate::json::{elements, field, object_at, owned_text};

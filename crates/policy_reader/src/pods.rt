@@ -1,7 +1,7 @@
 //! Reading pods.
 ghost use Rattle.std.specs.Prelude.{◌≡◌, ◌++◌, List, [], ◌∷◌, IfOk, Some, None, map, option_map, option_copied, option_to_list, find};
 ghost use Rattle.serde_json.specs.View.{view};
-ghost use Rattle.cluster_objects.specs.Objects.{AreAddresses};
+ghost use Rattle.cluster_objects.specs.Pod.{AreAddresses};
 ghost use Rattle.policy_reader.specs.Item.{Gives};
 ghost use Rattle.policy_reader.specs.ReadObjects.{inner, inner_text, inner_bool, ip_of, ips_in, ip_texts, is_ip_text, address_in, pod_addresses, is_ended, pod_key, has_ended, addresses_at, has_pod_shape, pod_spec, pod_status, pod_of, each, read_pod};
 

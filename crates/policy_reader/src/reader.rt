@@ -1,6 +1,7 @@
 //! Reading lines of JSON.
 ghost use Rattle.std.specs.Prelude.{◌≡◌, ◌==◌, List, option_map, position};
 ghost use Rattle.serde_json.specs.View.{view};
+ghost use Rattle.cl_types.specs.Bytes as byte;
 ghost use Rattle.policy_reader.specs.Item.{Gives};
 ghost use Rattle.policy_reader.specs.ReadLine.{group_of, group_in, object_of_kind, read_object, read_event, read_value, is_blank, read_line};
 
@@ -88,7 +89,7 @@ fn group_of(version: &[u8]) -> &[u8]
 }
 
 fn slash(text: &[u8]) -> Option<usize>
-    ensures { result ≡ position (λ b. b == 47) text.now }
+    ensures { result ≡ position (λ b. b == byte.slash) text.now }
 {
     text.iter().position(|b| *b == b'/')
 }

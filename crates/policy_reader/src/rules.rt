@@ -2,10 +2,10 @@
 ghost use Rattle.std.specs.Prelude.{◌≡◌, ◌≤◌, List, [], ◌∷◌, IfOk, IsTrue, Some, None, map, option_map, string_bytes};
 ghost use Rattle.std.specs.List.{list_all, list_any};
 ghost use Rattle.serde_json.specs.View.{view};
-ghost use Rattle.cl_types.specs.Equality.{text_eq};
-ghost use Rattle.cl_types.specs.Traffic.{PortRange};
+ghost use Rattle.cl_types.specs.Text.{text_eq};
+ghost use Rattle.cl_types.specs.Service.{PortRange};
 ghost use Rattle.cl_types.specs.declared.keys.Dir.TheVariants.{Ingress};
-ghost use Rattle.cl_types.specs.declared.traffic.Action.TheVariants.{Allow};
+ghost use Rattle.cl_types.specs.declared.verdict.Action.TheVariants.{Allow};
 ghost use Rattle.label_select.specs.Forms.{is_namespace_name};
 ghost use Rattle.label_select.specs.Group.{Group};
 ghost use Rattle.policy_reader.specs.Item.{Gives};
@@ -188,6 +188,9 @@ fn each_service(alloc: Global, items: &[Value]) -> Result<List<Service>, ReadRef
     Ok(List::of(services))
 }
 
+// A rule's place in its policy is below this, so that it fits its key.
+const RULE_LIMIT: usize = 1 << 32;
+
 /// A rule at its place in its policy.
 #[tactic(auto, unfolding(crate::specs::ReadObjects::rule_of))]
 pub(crate) fn rule_of(
@@ -199,7 +202,7 @@ pub(crate) fn rule_of(
     requires { IsTrue (is_namespace_name policy.now.namespace) }
     ensures { Gives (λ (r : _). r) result (rule_of policy.now index (view value.now)) }
 {
-    if !has_only(["from", "ports"].as_slice(), value) || index >= 4294967296 {
+    if !has_only(["from", "ports"].as_slice(), value) || index >= RULE_LIMIT {
         return Err(ReadRefusal::NotBuilt);
     }
     let peers = each_peer(alloc, &policy.namespace, some_at(value, "from")?)?;

@@ -8,9 +8,7 @@ use cl_types::{Addr, Prefix};
 pub(crate) fn address_of(text: &[u8]) -> Option<Addr>
     ensures { result ≡ address_of_text text.now }
 {
-    cl_types::written_is_read();
-    cl_types::decimals_have_one_text();
-    cl_types::texts_have_one_reading();
+    cl_types::texts_are_read_as_functions();
     match cl_types::read_addr(text) {
         Ok(Addr::V4(n)) => Some(Addr::V4(n)),
         Ok(Addr::V6(_)) => None,
@@ -22,9 +20,7 @@ pub(crate) fn address_of(text: &[u8]) -> Option<Addr>
 pub(crate) fn block_of(text: &[u8]) -> Option<Prefix>
     ensures { result ≡ block_of_text text.now }
 {
-    cl_types::written_is_read();
-    cl_types::decimals_have_one_text();
-    cl_types::texts_have_one_reading();
+    cl_types::texts_are_read_as_functions();
     match cl_types::read_prefix(text) {
         Ok(prefix) => match prefix.base {
             Addr::V4(_) => Some(prefix),

@@ -1,15 +1,15 @@
 -- What an insertion keeps and changes.
-use Rattle.std.proofs.Common.{◌≡◌, ◌≢◌, ◌↔◌, ℕ, ◌+◌, ◌-◌, ◌*◌, ◌/◌, ◌<◌, ◌≤◌, List, [], ◌∷◌, ◌++◌, length, take, drop, refl, arith, sym, ap, ◌∙◌, subst, suc, cond, true, false, Option, Some, None, leb, Result, Ok, Err, OnOk, OnErr, ⊎_elim}
+use Rattle.std.proofs.Common.{◌≡◌, ◌≢◌, ◌↔◌, ℕ, ◌+◌, ◌-◌, ◌/◌, ◌<◌, ◌≤◌, List, [], ◌∷◌, ◌++◌, length, take, drop, refl, arith, sym, ap, ◌∙◌, subst, suc, cond, true, false, Option, Some, None, leb, Result, Ok, Err, OnOk, OnErr, ⊎_elim}
 use Rattle.std.specs.Prelude.{insert, remove, slice_range, IsNone}
 use Rattle.std.proofs.lemmas.List.{append-nil, length-append, length-map, length-take-le, length-drop, take-append-drop, take-append-le, take-take, drop-append-le, drop-take, drop-drop, drop_at}
-use Rattle.std.proofs.lemmas.Bool.{leb-true, le-leb, and_parts, cases_lt}
+use Rattle.std.proofs.lemmas.Bool.{leb-true, le-leb, cases_lt}
 use Rattle.std.specs.List.Sorted.{IsStrictlySortedBy}
 use Rattle.std.proofs.Math.Nat.{mul-div_cancel_left}
 use Rattle.cl_types.specs.declared.keys.RuleKey.{RuleKey}
 use Rattle.priority_assign.specs.declared.numbered.Numbered.{Numbered}
 use Rattle.priority_assign.specs.declared.window.Window.{Window}
 use Rattle.priority_assign.specs.Rules.{keys, place_of, number_of, number_before, number_after, last_number, FallsBetween, IsLadder}
-use Rattle.priority_assign.specs.Windows.{upper, lower, fits, has_room, is_window, least_window}
+use Rattle.priority_assign.specs.Windows.{upper, lower, fits, least_window}
 use Rattle.priority_assign.specs.Insertion.{even_number, evenly, window_keys, spread, gap, halfway, inserted, changes, relabelled}
 use Rattle.priority_assign.proofs.Falling.{FallsBetween-append, FallsBetween-back, FallsBetween-front, FallsBetween-below, first_number-below, last_number-above}
 use Rattle.priority_assign.proofs.Even.{length-evenly, FallsBetween-evenly, changes-same, changes-append}

@@ -6,3 +6,4 @@ pub mod Narrow
 pub mod Comes
 pub mod Kept
 pub mod Looked
+pub mod Others

@@ -1,5 +1,5 @@
 -- Which windows of a width can have room where no narrower one has.
-use Rattle.std.proofs.Common.{◌≡◌, ℕ, ◌+◌, ◌-◌, ◌*◌, ◌<◌, ◌≤◌, List, length, arith, Option, Some, None, true, false, ◌⊎◌, inl, inr, ⊎_elim, refl, ap, sym, ◌∙◌, subst, cond, Bool, MatchOption}
+use Rattle.std.proofs.Common.{◌≡◌, ℕ, ◌+◌, ◌-◌, ◌*◌, ◌<◌, ◌≤◌, List, length, arith, Option, Some, None, true, false, ◌⊎◌, inl, inr, ⊎_elim, refl, ap, sym, subst, Bool, MatchOption}
 use Rattle.std.specs.Bool.{then_some}
 use Rattle.std.proofs.lemmas.Bool.{both_ways, cases_order, cases_lt, false_from_ne_true, lt-ltb, le-ltb}
 use Rattle.priority_assign.specs.declared.numbered.Numbered.{Numbered}

@@ -10,6 +10,7 @@ use Rattle.std.specs.declared.cmp.Ordering.TheVariants.{Less, Equal, Greater}
 use Rattle.std.specs.Cmp.{IsTotalOrder}
 use Rattle.std.proofs.lemmas.Cmp.{alike_right}
 use Rattle.std.proofs.lemmas.Bool.{both_ways}
+use Rattle.cl_types.specs.ListLaws.{all_weaker}
 
 all_insert : {K : Type 0} (P : K → Type 0) (k : K) (front back : List K) → AllByRecursion P (front ++ back) → P k → AllByRecursion P (front ++ k ∷ back)
 all_insert P k [] back f h = (h, f)
@@ -41,7 +42,7 @@ greater_from_neither Less h e = cc
 greater_from_neither Equal h e = cc
 greater_from_neither Greater h e = refl
 
-equal_from_is_eq : (r : Ordering) → is_eq r ≡ true → r ≡ Equal
+pub equal_from_is_eq : (r : Ordering) → is_eq r ≡ true → r ≡ Equal
 equal_from_is_eq Less h = cc
 equal_from_is_eq Equal h = refl
 equal_from_is_eq Greater h = cc
@@ -61,10 +62,6 @@ all_before_place R k (x ∷ ks) =
       | true ↦ λ h. rw (one_more (prefix_len (λ q. is_lt (R q k)) ks)) (less_from_is_lt (R x k) h, all_before_place R k ks)
       | false ↦ λ h. tt
     ] refl
-
-all_weaker : {K : Type 0} (P Q : K → Type 0) → ((x : K) → P x → Q x) → (ks : List K) → AllByRecursion P ks → AllByRecursion Q ks
-all_weaker P Q w [] f = tt
-all_weaker P Q w (x ∷ ks) f = (w x f.0, all_weaker P Q w ks f.1)
 
 less_back : {K : Type 0} {R : K → K → Ordering} (o : IsTotalOrder R) (k x : K) → R x k ≡ Greater → R k x ≡ Less
 less_back o k x h = o.antisymm k x ∙ ap ordering_reverse h

@@ -1,4 +1,4 @@
--- How a rule that comes in gets its number, and which others get a new one. This project's own; the even
+-- How a rule that is inserted gets its number, and which others get a new one. This project's own; the even
 -- spread over a window follows the labels of ordered lists (Dietz and Sleator).
 use Rattle.std.specs.Prelude.{ℕ, ◌+◌, ◌-◌, ◌*◌, ◌/◌, ◌==◌, nat_le, List, [], ◌∷◌, ◌++◌, take, drop, insert, remove, slice_range, if◌then◌else◌}
 use Rattle.cl_types.specs.declared.keys.RuleKey.{RuleKey}
@@ -21,7 +21,7 @@ abbrev pub window_keys : List Numbered → RuleKey → Window → List RuleKey
 window_keys xs k v =
     keys (slice_range xs v.begin (place_of xs k)) ++ k ∷ keys (slice_range xs (place_of xs k) (v.begin + v.width - 1))
 
--- k comes in, and its window's rules are spread evenly
+-- k is inserted, and its window's rules are spread evenly
 abbrev pub spread : List Numbered → RuleKey → Window → List Numbered
 spread xs k v =
     take v.begin xs
@@ -32,12 +32,12 @@ spread xs k v =
 abbrev pub gap : List Numbered → RuleKey → ℕ
 gap xs k = number_before xs (place_of xs k) - number_after xs (place_of xs k)
 
--- k comes in halfway between its neighbours
+-- k is inserted halfway between its neighbours
 abbrev pub halfway : List Numbered → RuleKey → List Numbered
 halfway xs k =
     insert xs (place_of xs k) (record { key = k; number = (number_after xs (place_of xs k) + number_before xs (place_of xs k)) / 2 })
 
--- the rules once k came in
+-- the rules once k is inserted
 unfoldable pub inserted : List Numbered → RuleKey → List Numbered
 inserted xs k = if nat_le 2 (gap xs k) then halfway xs k else spread xs k (least_window xs (place_of xs k))
 

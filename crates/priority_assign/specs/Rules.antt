@@ -40,21 +40,33 @@ abbrev pub first_number : ℕ → List Numbered → ℕ
 first_number l [] = l
 first_number l (x ∷ xs) = x.number
 
--- the number of the rule next before a place, 64001 where there is none
-abbrev pub number_before : List Numbered → ℕ → ℕ
-number_before xs i = last_number 64001 (take i xs)
+-- a number above those of all rules, and one below them
+abbrev pub above_all : ℕ
+above_all = 64001
 
--- the number of the rule next after a place, 99 where there is none
+abbrev pub below_all : ℕ
+below_all = 99
+
+-- how many rules have numbers at most
+abbrev pub most_rules : ℕ
+most_rules = 16000
+
+-- the number of the rule next before a place, the one above all where there is none
+abbrev pub number_before : List Numbered → ℕ → ℕ
+number_before xs i = last_number above_all (take i xs)
+
+-- the number of the rule next after a place, the one below all where there is none
 abbrev pub number_after : List Numbered → ℕ → ℕ
-number_after xs i = first_number 99 (drop i xs)
+number_after xs i = first_number below_all (drop i xs)
 
 -- the numbers fall strictly, all of them below u and above l
 abbrev pub FallsBetween : ℕ → ℕ → List Numbered → Type 0
 FallsBetween u l [] = l < u
 FallsBetween u l (x ∷ xs) = (x.number < u) × FallsBetween x.number l xs
 
--- each key comes before those after it, numbers fall from 64000 down to 100, and there are at most 16,000
+-- each key comes before those after it, the numbers fall strictly between the two bounds, and there are not
+-- too many
 pub record IsLadder (xs : List Numbered) : Type 0 where
   pub ordered : IsStrictlySortedBy rule_order (keys xs)
-  pub falling : FallsBetween 64001 99 xs
-  pub few : length xs ≤ 16000
+  pub falling : FallsBetween above_all below_all xs
+  pub few : length xs ≤ most_rules

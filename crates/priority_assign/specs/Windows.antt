@@ -1,4 +1,4 @@
--- Windows: consecutive rules, a rule that comes in among them. This project's own.
+-- Windows: consecutive rules, a rule that is inserted among them. This project's own.
 use Rattle.std.specs.Prelude.{◌≡◌, ◌<◌, ◌≤◌, true, false, ℕ, ◌+◌, ◌-◌, ◌*◌, ◌&&◌, nat_le, nat_lt, List, map, length, Bool, find, unwrap_or}
 use Rattle.std.specs.List.{flat_map, range_with_len}
 use Rattle.priority_assign.specs.declared.numbered.Numbered.{Numbered}
@@ -12,7 +12,7 @@ upper xs v = number_before xs v.begin
 abbrev pub lower : List Numbered → Window → ℕ
 lower xs v = number_after xs (v.begin + v.width - 1)
 
--- it has the rule that comes in at place p, and no more than all
+-- it has the rule that is inserted at place p, and no more than all
 abbrev pub is_window : List Numbered → ℕ → Window → Bool
 is_window xs p v = nat_le v.begin p && nat_lt p (v.begin + v.width) && nat_le (v.begin + v.width) (length xs + 1)
 

@@ -1,7 +1,7 @@
 ghost use Rattle.std.specs.Prelude.{◌≡◌, ◌≤◌, ◌<◌, ◌++◌, [], ◌+◌, length, take, drop, OnOk, OnErr, IfOk, IsNone, remove, Some, true};
 ghost use Rattle.std.specs.List.Sorted.{IsStrictlySortedBy};
 ghost use Rattle.cl_types.specs.RuleOrder.{rule_order};
-ghost use Rattle.priority_assign.specs.Rules.{keys, place_of, is_before, is_rule, number_of, IsLadder};
+ghost use Rattle.priority_assign.specs.Rules.{keys, place_of, is_before, is_rule, number_of, IsLadder, most_rules};
 ghost use Rattle.priority_assign.specs.Windows.{fits};
 ghost use Rattle.priority_assign.specs.Insertion.{even_number, evenly, changes, halfway, spread, inserted, relabelled};
 
@@ -44,7 +44,7 @@ pub fn place_of(rules: &[Numbered], k: &RuleKey) -> usize
 pub fn even_number(spread: Spread, i: usize) -> u16
     requires ordered { spread.lower ≤ spread.upper }
     requires within { i ≤ spread.width }
-    requires few { spread.width ≤ 16000 }
+    requires few { spread.width ≤ most_rules }
     ensures { result ≡ even_number spread.lower spread.upper spread.width i }
 {
     let lower = usize::from(spread.lower);
@@ -56,7 +56,7 @@ pub fn even_number(spread: Spread, i: usize) -> u16
 pub fn renumber(rules: &mut [Numbered], spread: Spread)
     requires ordered { spread.lower ≤ spread.upper }
     requires whole { length rules.old ≡ spread.width }
-    requires few { spread.width ≤ 16000 }
+    requires few { spread.width ≤ most_rules }
     ensures { rules.new ≡ evenly spread.lower spread.upper spread.width spread.width (keys rules.old) }
 {
     let mut i = spread.width;
@@ -70,7 +70,7 @@ pub fn renumber(rules: &mut [Numbered], spread: Spread)
 fn renumber_part(rules: &mut Vec<Numbered>, begin: usize, spread: Spread)
     requires ordered { spread.lower ≤ spread.upper }
     requires within { begin + spread.width ≤ length rules.old.items }
-    requires few { spread.width ≤ 16000 }
+    requires few { spread.width ≤ most_rules }
     ensures { rules.new.items ≡ take begin rules.old.items
         ++ evenly spread.lower spread.upper spread.width spread.width
         (keys (take spread.width (drop begin rules.old.items)))
@@ -93,7 +93,7 @@ pub fn collect_changes(
     requires ordered { spread.lower ≤ spread.upper }
     requires within { first ≤ spread.width }
     requires enough { length rules.now ≤ first }
-    requires few { spread.width ≤ 16000 }
+    requires few { spread.width ≤ most_rules }
     ensures { OnOk result (changed.new.items ≡ changed.old.items
         ++ changes rules.now (evenly spread.lower spread.upper spread.width first (keys rules.now))) }
 {
@@ -111,7 +111,7 @@ pub fn collect_changes(
     Ok(())
 }
 
-/// Lets a rule in at its place, halfway between its neighbours.
+/// Inserts a rule at its place, halfway between its neighbours.
 fn insert_halfway(rules: &mut Vec<Numbered>, place: usize, key: RuleKey) -> Result<Placed, NoMemory>
     requires ladder { IsLadder rules.old.items }
     requires here { place ≡ place_of rules.old.items key }
@@ -128,7 +128,7 @@ fn insert_halfway(rules: &mut Vec<Numbered>, place: usize, key: RuleKey) -> Resu
     Ok(Placed { number, relabelled })
 }
 
-/// Lets a rule in at its place, and spreads its window's rules evenly.
+/// Inserts a rule at its place, and spreads its window's rules evenly.
 fn insert_spread(
     rules: &mut Vec<Numbered>,
     place: usize,
@@ -137,7 +137,7 @@ fn insert_spread(
 ) -> Result<Placed, NoMemory>
     requires ladder { IsLadder rules.old.items }
     requires here { place ≡ place_of rules.old.items key }
-    requires few { length rules.old.items < 16000 }
+    requires few { length rules.old.items < most_rules }
     requires fit { fits rules.old.items place window ≡ true }
     ensures rules { OnOk result (rules.new.items ≡ spread rules.old.items key window) }
     ensures number { IfOk result (λ placed. number_of rules.new.items key ≡ Some placed.number) }
@@ -173,12 +173,12 @@ fn insert_spread(
     })
 }
 
-/// Lets a rule in.
+/// Inserts a rule.
 #[tactic(auto, unfolding(crate::specs::Insertion::inserted, crate::specs::Insertion::relabelled))]
 pub fn insert_rule(rules: &mut Vec<Numbered>, key: RuleKey) -> Result<Placed, NoMemory>
     requires ladder { IsLadder rules.old.items }
     requires absent { IsNone (number_of rules.old.items key) }
-    requires few { length rules.old.items < 16000 }
+    requires few { length rules.old.items < most_rules }
     ensures rules { OnOk result (rules.new.items ≡ inserted rules.old.items key) }
     ensures number { IfOk result (λ placed. number_of rules.new.items key ≡ Some placed.number) }
     ensures relabelled { IfOk result (λ placed. placed.relabelled ≡ relabelled rules.old.items key) }

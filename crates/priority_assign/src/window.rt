@@ -1,42 +1,48 @@
 ghost use Rattle.std.specs.Prelude.{◌≡◌, ◌≤◌, ◌<◌, ◌+◌, ℕ, List, length, false, MatchOption};
-ghost use Rattle.priority_assign.specs.Rules.{number_before, number_after};
+ghost use Rattle.priority_assign.specs.Rules.{number_before, number_after, most_rules};
 ghost use Rattle.priority_assign.specs.Search.{is_loose, IsNearestLoose, NoneNarrower, NoneEnding};
 ghost use Rattle.priority_assign.specs.Windows.{has_room, least_window, fits, IsFirstBegin, IsLeast};
 ghost use Rattle.priority_assign.specs.declared.numbered.Numbered.{Numbered};
 
 use crate::numbered::Numbered;
 
-/// Consecutive rules, one that comes in among them: `begin` others stand before them.
+/// A number above those of all rules.
+pub const ABOVE_ALL: u16 = 64001;
+
+/// A number below those of all rules.
+pub const BELOW_ALL: u16 = 99;
+
+/// Consecutive rules, one that is inserted among them: `begin` others stand before them.
 #[derive(Clone, Copy)]
 pub struct Window {
     pub begin: usize,
     pub width: usize,
 }
 
-/// The number of the rule next before a place, 64001 where there is none.
+/// The number of the rule next before a place, the one above all where there is none.
 pub fn number_before(rules: &[Numbered], place: usize) -> u16
     requires { place ≤ length rules.now }
     ensures { result ≡ number_before rules.now place }
 {
     if place == 0 {
-        64001
+        ABOVE_ALL
     } else {
         rules[place - 1].number
     }
 }
 
-/// The number of the rule next after a place, 99 where there is none.
+/// The number of the rule next after a place, the one below all where there is none.
 pub fn number_after(rules: &[Numbered], place: usize) -> u16
     ensures { result ≡ number_after rules.now place }
 {
     match rules.get(place) {
         Some(rule) => rule.number,
-        None => 99,
+        None => BELOW_ALL,
     }
 }
 
 fn has_room(rules: &[Numbered], window: Window) -> bool
-    requires few { length rules.now < 16000 }
+    requires few { length rules.now < most_rules }
     requires wide { 0 < window.width }
     requires within { window.begin + window.width ≤ length rules.now + 1 }
     ensures { result ≡ has_room rules.now window }
@@ -49,7 +55,7 @@ fn has_room(rules: &[Numbered], window: Window) -> bool
 
 /// Whether the window holds no more than all rules and has room.
 fn fits(rules: &[Numbered], place: usize, window: Window) -> bool
-    requires few { length rules.now < 16000 }
+    requires few { length rules.now < most_rules }
     requires within { place ≤ length rules.now }
     requires from { window.begin ≤ place }
     requires to { place < window.begin + window.width }
@@ -61,7 +67,7 @@ fn fits(rules: &[Numbered], place: usize, window: Window) -> bool
 
 /// Whether the rules from `begin` up to `place` have more than two numbers each.
 fn is_loose(rules: &[Numbered], place: usize, begin: usize) -> bool
-    requires few { length rules.now < 16000 }
+    requires few { length rules.now < most_rules }
     requires before { begin < place }
     requires within { place ≤ length rules.now }
     ensures { result ≡ is_loose rules.now place begin }
@@ -73,7 +79,7 @@ fn is_loose(rules: &[Numbered], place: usize, begin: usize) -> bool
 
 /// The nearest loose place once windows of this width were looked at.
 fn next_loose(rules: &[Numbered], place: usize, width: usize, loose: Option<usize>) -> Option<usize>
-    requires few { length rules.now < 16000 }
+    requires few { length rules.now < most_rules }
     requires within { place ≤ length rules.now }
     requires wide { 0 < width }
     requires loose { IsNearestLoose rules.now place width loose }
@@ -90,7 +96,7 @@ fn next_loose(rules: &[Numbered], place: usize, width: usize, loose: Option<usiz
 
 /// Where the window of this width that ends with `place` begins, if it fits.
 fn ending(rules: &[Numbered], place: usize, width: usize) -> Option<usize>
-    requires few { length rules.now < 16000 }
+    requires few { length rules.now < most_rules }
     requires within { place ≤ length rules.now }
     requires wide { 0 < width }
     requires narrow { width ≤ length rules.now }
@@ -113,7 +119,7 @@ fn first_begin(
     width: usize,
     loose: Option<usize>,
 ) -> Option<usize>
-    requires few { length rules.now < 16000 }
+    requires few { length rules.now < most_rules }
     requires within { place ≤ length rules.now }
     requires wide { 0 < width }
     requires narrow { width ≤ length rules.now }
@@ -139,7 +145,7 @@ fn first_begin(
 /// Of the windows with room the narrowest, and of those as wide the one that begins first. It looks at a
 /// few windows of each width, so that it costs as much as the window is wide.
 pub fn least_window(rules: &[Numbered], place: usize) -> Window
-    requires few { length rules.now < 16000 }
+    requires few { length rules.now < most_rules }
     requires within { place ≤ length rules.now }
     requires full { number_before rules.now place ≡ number_after rules.now place + 1 }
     ensures { result ≡ least_window rules.now place }
@@ -159,6 +165,6 @@ pub fn least_window(rules: &[Numbered], place: usize) -> Window
 
 /// The law of the least window: while there are fewer than 16,000 rules, some window has room for one more.
 pub fn least_window_law()
-    ensures { (rules : List Numbered) (place : ℕ) → length rules < 16000 → place ≤ length rules
+    ensures { (rules : List Numbered) (place : ℕ) → length rules < most_rules → place ≤ length rules
         → IsLeast rules place (least_window rules place) }
 {}

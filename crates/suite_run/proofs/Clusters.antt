@@ -1,5 +1,5 @@
 -- The clusters of the revisions.
-use Rattle.std.proofs.Common.{◌≡◌, ℕ, ◌+◌, Bool, true, false, Result, Ok, Err, List, [], ◌∷◌, length, if◌then◌else◌, find, None, Some, Option, refl, ap, sym, subst, ◌∙◌, arith, ◌⊎◌, inl, inr, true≢false}
+use Rattle.std.proofs.Common.{◌≡◌, ℕ, ◌+◌, Bool, true, false, ◌&&◌, Result, Ok, Err, List, [], ◌∷◌, length, if◌then◌else◌, find, None, Some, Option, refl, ap, sym, subst, ◌∙◌, arith, ◌⊎◌, inl, inr, true≢false}
 use Rattle.cluster_objects.specs.declared.change.Applied.{Applied}
 use Rattle.cluster_objects.specs.declared.change.Applied.TheVariants.{Changed, Unchanged}
 use Rattle.cluster_objects.specs.declared.change.Change.{Change}
@@ -10,23 +10,24 @@ use Rattle.cluster_objects.specs.declared.change.Object.TheVariants as object
 use Rattle.cl_types.specs.Ascending.{found, put}
 use Rattle.cl_types.specs.Equality.{is_same}
 use Rattle.cl_types.specs.Judgement.{Judgement}
-use Rattle.cl_types.specs.declared.traffic.Question.{Question}
+use Rattle.cl_types.specs.declared.question.Question.{Question}
 use Rattle.cluster_objects.specs.declared.node.NodeInfo as node
 use Rattle.cluster_objects.specs.declared.pod.Pod as pod
 use Rattle.cluster_objects.specs.declared.policy.Policy as policy
-use Rattle.cluster_objects.specs.Apply.{after, and_then, one_changed, apply, is_there, at_node, at_pod, at_policy, takes_address, unless_taken, address_taker, Outcome as Applying}
+use Rattle.cluster_objects.specs.Apply.{Placed, makes_difference, leaves, after, and_then, one_changed, apply, is_there, at_node, at_pod, at_policy, takes_address, unless_taken, address_taker, Outcome as Applying}
 use Rattle.cluster_objects.specs.Evaluation.{side}
-use Rattle.cluster_objects.specs.Groups.{counts}
-use Rattle.cluster_objects.specs.Objects.{NodeData, PodData}
-use Rattle.cluster_objects.specs.State.{ClusterData, no_objects}
+use Rattle.cluster_objects.specs.Node.{NodeData}
+use Rattle.cluster_objects.specs.Pod.{PodData, counts}
+use Rattle.cluster_objects.specs.Policy.{PolicyData}
+use Rattle.cluster_objects.specs.Cluster.{ClusterData, no_objects}
 use Rattle.policy_reader.specs.declared.item.Control.TheVariants.{Ask}
-use Rattle.suite_run.specs.declared.said.Refusal.TheVariants.{NoNode}
-use Rattle.suite_run.specs.declared.said.Said.{Said}
-use Rattle.suite_run.specs.declared.said.Said.TheVariants.{Object, Control, Blank, Refused}
+use Rattle.suite_run.specs.declared.item.Refusal.TheVariants.{NoNode}
+use Rattle.suite_run.specs.declared.item.Item.{Item}
+use Rattle.suite_run.specs.declared.item.Item.TheVariants.{Object, Control, Blank, Refused}
 use Rattle.suite_run.specs.declared.world.World.{World}
 use Rattle.suite_run.specs.Blocks.{world_after}
 use Rattle.suite_run.specs.History.{revised_to, revisions, nodes_alone, last_or, RevisionsAreCounted, TheLastIsTheCluster}
-use Rattle.suite_run.specs.World.{Step, refused, judged, changes, applied, step, said, answer, is_listed, is_node, first_world, happens}
+use Rattle.suite_run.specs.World.{Step, refused, judged, step_of_change, applied, step, item_of, answer, is_listed, is_node, first_world, happens}
 
 -- ---- counting
 
@@ -38,11 +39,11 @@ count-applied node w Unchanged later = refl
 count-applied true w Changed later = refl
 count-applied false w Changed later = omega arith
 
-count-changes : (node : Bool) (w : World) (r : Result Applying ClusterRefusal) → Counts w (changes node w r)
-count-changes node w (Ok o) later = count-applied node (record w { cluster = o.cluster }) o.applied later
-count-changes node w (Err cluster.NodesFixed) later = refl
-count-changes node w (Err (cluster.AddressInUse pod)) later = refl
-count-changes node w (Err cluster.NoMemory) later = refl
+count-step_of_change : (node : Bool) (w : World) (r : Result Applying ClusterRefusal) → Counts w (step_of_change node w r)
+count-step_of_change node w (Ok o) later = count-applied node (record w { cluster = o.cluster }) o.applied later
+count-step_of_change node w (Err cluster.NodesFixed) later = refl
+count-step_of_change node w (Err (cluster.AddressInUse pod)) later = refl
+count-step_of_change node w (Err cluster.NoMemory) later = refl
 
 -- an answer is no revision
 answered : (listed : Bool) (r : ℕ) (j : Judgement) (c : ClusterData) (later : List ClusterData) → revised_to (if listed then judged r j else refused NoNode) c later ≡ later
@@ -52,16 +53,16 @@ answered false r j c later = refl
 answer-is-none : (w : World) (node : List ℕ) (question : Question) (later : List ClusterData) → revised_to (answer w node question) w.cluster later ≡ later
 answer-is-none w node question later = answered (is_listed w.cluster node) w.revision (side w.cluster node question) w.cluster later
 
-count-step : (w : World) (s : Said) → Counts w (step w s)
+count-step : (w : World) (s : Item) → Counts w (step w s)
 unfolding step
-count-step w (Object change) later = count-changes (is_node change) w (after w.cluster (change ∷ [])) later
+count-step w (Object change) later = count-step_of_change (is_node change) w (after w.cluster (change ∷ [])) later
 count-step w (Control (Ask node question)) later = ap (λ z. w.revision + length z) (sym (answer-is-none w node question later))
 count-step w Blank later = refl
 count-step w (Refused r) later = refl
 
 count-lines : (w : World) (lines : List (List ℕ)) → (world_after w lines).revision ≡ w.revision + length (revisions w lines)
 count-lines w [] = omega arith
-count-lines w (line ∷ lines) = count-lines (happens w line) lines ∙ count-step w (said line) (revisions (happens w line) lines)
+count-lines w (line ∷ lines) = count-lines (happens w line) lines ∙ count-step w (item_of line) (revisions (happens w line) lines)
 
 -- ---- once the nodes are fixed
 
@@ -80,33 +81,40 @@ abbrev LateChange : Bool → ClusterData → Result Applying ClusterRefusal → 
 LateChange node c (Ok o) = (o.cluster.fixed ≡ true) × SameUnless node o.applied c o.cluster
 LateChange node c (Err refusal) = c ≡ c
 
-late-node : (there fixed : Bool) (c d : ClusterData) → c.fixed ≡ true → fixed ≡ true
-    → LateChange true c (if there then Ok (record { cluster = c; applied = Unchanged }) else (if fixed then Err cluster.NodesFixed else Ok (record { cluster = d; applied = Changed })))
-late-node true fixed c d h f = (h, refl)
-late-node false true c d h f = refl
-late-node false false c d h f = absurd (true≢false (sym f))
+-- what a put of one kind leaves, where the thing was there already and where it wasn't
+abbrev either : {T : Type 0} → Bool → List T → List T → Placed T
+either there xs ys = if there then record { items = xs; applied = Unchanged } else record { items = ys; applied = Changed }
+
+-- a node's put that came to this
+abbrev node_put : Placed NodeData → Bool → ClusterData → Result Applying ClusterRefusal
+node_put p fixed c = if fixed && makes_difference p.applied then Err cluster.NodesFixed else Ok (leaves p (λ nodes. record c { nodes = nodes }))
+
+late-node : (there fixed : Bool) (c : ClusterData) (nodes : List NodeData) → c.fixed ≡ true → fixed ≡ true → LateChange true c (node_put (either there c.nodes nodes) fixed c)
+late-node true true c nodes h f = (h, refl)
+late-node false true c nodes h f = refl
+late-node there false c nodes h f = absurd (true≢false (sym f))
 
 refixed : (c : ClusterData) → c.fixed ≡ true → record c { fixed = true } ≡ c
 refixed c h = ap (λ (z : Bool). record c { fixed = z }) (sym h)
 
-late-pod : (there : Bool) (c d : ClusterData) → c.fixed ≡ true → d.fixed ≡ true
-    → LateChange false c (Ok (if there then record { cluster = record c { fixed = true }; applied = Unchanged } else record { cluster = d; applied = Changed }))
-late-pod true c d h f = (refl, refixed c h)
-late-pod false c d h f = (f, refl)
+late-pod : (there : Bool) (c : ClusterData) (pods : List PodData) → c.fixed ≡ true
+    → LateChange false c (Ok (leaves (either there c.pods pods) (λ ps. record c { fixed = true; pods = ps })))
+late-pod true c pods h = (refl, refixed c h)
+late-pod false c pods h = (refl, refl)
 
-late-policy : (there : Bool) (c d : ClusterData) → c.fixed ≡ true → d.fixed ≡ true
-    → LateChange false c (if there then Ok (record { cluster = record c { fixed = true }; applied = Unchanged }) else Ok (record { cluster = d; applied = Changed }))
-late-policy true c d h f = (refl, refixed c h)
-late-policy false c d h f = (f, refl)
+late-policy : (there : Bool) (c : ClusterData) (policies : List PolicyData) → c.fixed ≡ true
+    → LateChange false c (Ok (leaves (either there c.policies policies) (λ ps. record c { fixed = true; policies = ps })))
+late-policy true c policies h = (refl, refixed c h)
+late-policy false c policies h = (refl, refl)
 
 late-taken : (taker : Option PodData) (c : ClusterData) (p : PodData) → c.fixed ≡ true → LateChange false c (unless_taken taker c p)
-late-taken None c p h = late-pod (is_there (is_same pod.the_code) p (found (at_pod p.key) c.pods)) c (record c { fixed = true; pods = put (at_pod p.key) p c.pods }) h refl
+late-taken None c p h = late-pod (is_there (is_same pod.the_code) p (found (at_pod p.key) c.pods)) c (put (at_pod p.key) p c.pods) h
 late-taken (Some other) c p h = refl
 
 late-apply : (c : ClusterData) (change : Change) → c.fixed ≡ true → LateChange (is_node change) c (apply c change)
-late-apply c (Put (object.Node n)) h = late-node (is_there (is_same node.the_code) n (found (at_node n.name) c.nodes)) c.fixed c (record c { nodes = put (at_node n.name) n c.nodes }) h h
+late-apply c (Put (object.Node n)) h = late-node (is_there (is_same node.the_code) n (found (at_node n.name) c.nodes)) c.fixed c (put (at_node n.name) n c.nodes) h h
 late-apply c (Put (object.Pod p)) h = late-taken (address_taker c p) c p h
-late-apply c (Put (object.Policy p)) h = late-policy (is_there (is_same policy.the_code) p (found (at_policy p) c.policies)) c (record c { fixed = true; policies = put (at_policy p) p c.policies }) h refl
+late-apply c (Put (object.Policy p)) h = late-policy (is_there (is_same policy.the_code) p (found (at_policy p.key) c.policies)) c (put (at_policy p.key) p c.policies) h
 
 late-applied : (node : Bool) (w : World) (a : Applied) (d : ClusterData) → d.fixed ≡ true → SameUnless node a w.cluster d
     → Late w (applied node (record w { cluster = d }) (one_changed a Unchanged))
@@ -114,16 +122,16 @@ late-applied node w Unchanged d h e = (h, λ later. ap (λ z. last_or z later) (
 late-applied true w Changed d h e = (h, λ later. ap (λ z. last_or z later) (sym e))
 late-applied false w Changed d h e = (h, λ later. refl)
 
-late-changes : (node : Bool) (w : World) (r : Result Applying ClusterRefusal) → w.cluster.fixed ≡ true → LateChange node w.cluster r
-    → Late w (changes node w (and_then r (λ c. Ok (record { cluster = c; applied = Unchanged }))))
-late-changes node w (Ok o) h l = late-applied node w o.applied o.cluster l.0 l.1
-late-changes node w (Err cluster.NodesFixed) h l = (h, λ later. refl)
-late-changes node w (Err (cluster.AddressInUse pod)) h l = (h, λ later. refl)
-late-changes node w (Err cluster.NoMemory) h l = (h, λ later. refl)
+late-step_of_change : (node : Bool) (w : World) (r : Result Applying ClusterRefusal) → w.cluster.fixed ≡ true → LateChange node w.cluster r
+    → Late w (step_of_change node w (and_then r (λ c. Ok (record { cluster = c; applied = Unchanged }))))
+late-step_of_change node w (Ok o) h l = late-applied node w o.applied o.cluster l.0 l.1
+late-step_of_change node w (Err cluster.NodesFixed) h l = (h, λ later. refl)
+late-step_of_change node w (Err (cluster.AddressInUse pod)) h l = (h, λ later. refl)
+late-step_of_change node w (Err cluster.NoMemory) h l = (h, λ later. refl)
 
-late-step : (w : World) (s : Said) → w.cluster.fixed ≡ true → Late w (step w s)
+late-step : (w : World) (s : Item) → w.cluster.fixed ≡ true → Late w (step w s)
 unfolding step
-late-step w (Object change) h = late-changes (is_node change) w (apply w.cluster change) h (late-apply w.cluster change h)
+late-step w (Object change) h = late-step_of_change (is_node change) w (apply w.cluster change) h (late-apply w.cluster change h)
 late-step w (Control (Ask node question)) h = (h, λ later. ap (last_or w.cluster) (answer-is-none w node question later))
 late-step w Blank h = (h, λ later. refl)
 late-step w (Refused r) h = (h, λ later. refl)
@@ -131,7 +139,7 @@ late-step w (Refused r) h = (h, λ later. refl)
 late-lines : (w : World) (lines : List (List ℕ)) → w.cluster.fixed ≡ true → last_or w.cluster (revisions w lines) ≡ (world_after w lines).cluster
 late-lines w [] h = refl
 late-lines w (line ∷ lines) h =
-    let s = late-step w (said line) h in
+    let s = late-step w (item_of line) h in
     s.1 (revisions (happens w line) lines) ∙ late-lines (happens w line) lines s.0
 
 -- ---- before
@@ -149,10 +157,9 @@ abbrev early_world : List NodeData → ℕ → World
 early_world nodes r = record { cluster = early nodes; revision = r }
 
 abbrev turns : Bool → List NodeData → ℕ → Result Applying ClusterRefusal → Step
-turns node nodes r result = changes node (early_world nodes r) (and_then result (λ c. Ok (record { cluster = c; applied = Unchanged })))
+turns node nodes r result = step_of_change node (early_world nodes r) (and_then result (λ c. Ok (record { cluster = c; applied = Unchanged })))
 
-early-node : (there : Bool) (nodes nodes' : List NodeData) (r : ℕ)
-    → Turned (turns true nodes r (if there then Ok (record { cluster = early nodes; applied = Unchanged }) else Ok (record { cluster = early nodes'; applied = Changed })))
+early-node : (there : Bool) (nodes nodes' : List NodeData) (r : ℕ) → Turned (turns true nodes r (node_put (either there nodes nodes') false (early nodes)))
 early-node true nodes nodes' r = inl (refl, λ later. refl)
 early-node false nodes nodes' r = inl (refl, λ later. refl)
 
@@ -166,7 +173,7 @@ early-apply nodes r (Put (object.Node n)) = early-node (is_there (is_same node.t
 early-apply nodes r (Put (object.Pod p)) = early-pod (counts p) nodes r p
 early-apply nodes r (Put (object.Policy p)) = inr (refl, λ x later. refl)
 
-early-step : (nodes : List NodeData) (r : ℕ) (s : Said) → Turned (step (early_world nodes r) s)
+early-step : (nodes : List NodeData) (r : ℕ) (s : Item) → Turned (step (early_world nodes r) s)
 unfolding step
 early-step nodes r (Object change) = early-apply nodes r change
 early-step nodes r (Control (Ask node question)) = inl (refl, λ later. answer-is-none (early_world nodes r) node question later)
@@ -180,7 +187,7 @@ EndsLast x w lines = (world_after w lines).cluster.fixed ≡ true → last_or x 
 still : (x : ClusterData) (w : World) (lines : List (List ℕ)) → w.cluster ≡ early w.cluster.nodes → EndsLast x (early_world w.cluster.nodes w.revision) lines → EndsLast x w lines
 still x w lines e = subst (λ (c : ClusterData). EndsLast x (record w { cluster = c }) lines) (sym e)
 
-early-line : (x : ClusterData) (w : World) (line : List ℕ) (lines : List (List ℕ)) → Turned (step w (said line))
+early-line : (x : ClusterData) (w : World) (line : List ℕ) (lines : List (List ℕ)) → Turned (step w (item_of line))
     → ((nodes : List NodeData) (r : ℕ) → EndsLast x (early_world nodes r) lines) → EndsLast x w (line ∷ lines)
 early-line x w line lines (inl e) rest f =
     let w' = happens w line in
@@ -189,7 +196,7 @@ early-line x w line lines (inr e) rest f = e.1 x (revisions (happens w line) lin
 
 early-lines : (x : ClusterData) (lines : List (List ℕ)) (nodes : List NodeData) (r : ℕ) → EndsLast x (early_world nodes r) lines
 early-lines x [] nodes r f = absurd (true≢false (sym f))
-early-lines x (line ∷ lines) nodes r f = early-line x (early_world nodes r) line lines (early-step nodes r (said line)) (early-lines x lines) f
+early-lines x (line ∷ lines) nodes r f = early-line x (early_world nodes r) line lines (early-step nodes r (item_of line)) (early-lines x lines) f
 
 pub revisions_counted : RevisionsAreCounted
 revisions_counted lines = let e = count-lines first_world lines in omega (arith, e)

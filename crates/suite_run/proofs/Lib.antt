@@ -1,6 +1,5 @@
 pub mod Clusters
 pub mod Ending
-pub mod NoLongLines
 pub mod RefusedLines
 pub mod Revisions
 pub mod Running

@@ -6,12 +6,12 @@ use Rattle.cluster_objects.specs.declared.change.ClusterRefusal.{ClusterRefusal}
 use Rattle.cluster_objects.specs.declared.change.ClusterRefusal.TheVariants as cluster
 use Rattle.cluster_objects.specs.Apply.{after, Outcome as Applying}
 use Rattle.policy_reader.specs.declared.item.Control.TheVariants.{Ask}
-use Rattle.suite_run.specs.declared.said.Said.{Said}
-use Rattle.suite_run.specs.declared.said.Said.TheVariants.{Object, Control, Blank, Refused}
+use Rattle.suite_run.specs.declared.item.Item.{Item}
+use Rattle.suite_run.specs.declared.item.Item.TheVariants.{Object, Control, Blank, Refused}
 use Rattle.suite_run.specs.declared.world.World.{World}
 use Rattle.suite_run.specs.Blocks.{block_text, world_after, blocks}
 use Rattle.suite_run.specs.Laws.{RefusedLinesChangeNothing, RefusedLinesAreAsBlank}
-use Rattle.suite_run.specs.World.{step, changes, applied, is_node, said, is_refusal, outcome, happens}
+use Rattle.suite_run.specs.World.{step, step_of_change, applied, is_node, item_of, is_refusal, outcome, happens}
 use Rattle.suite_run.proofs.Wholes.{blocks-append}
 
 no_refusal : (node : Bool) (w : World) (a : Applied) → is_refusal (applied node w a).outcome ≡ false
@@ -19,21 +19,21 @@ no_refusal node w Unchanged = refl
 no_refusal true w Changed = refl
 no_refusal false w Changed = refl
 
-refused-changes : (node : Bool) (w : World) (r : Result Applying ClusterRefusal) → IsTrue (is_refusal (changes node w r).outcome) → (changes node w r).world ≡ w
-refused-changes node w (Ok o) h = let e = no_refusal node (record w { cluster = o.cluster }) o.applied in cc
-refused-changes node w (Err cluster.NodesFixed) h = refl
-refused-changes node w (Err (cluster.AddressInUse pod)) h = refl
-refused-changes node w (Err cluster.NoMemory) h = refl
+refused-step_of_change : (node : Bool) (w : World) (r : Result Applying ClusterRefusal) → IsTrue (is_refusal (step_of_change node w r).outcome) → (step_of_change node w r).world ≡ w
+refused-step_of_change node w (Ok o) h = let e = no_refusal node (record w { cluster = o.cluster }) o.applied in cc
+refused-step_of_change node w (Err cluster.NodesFixed) h = refl
+refused-step_of_change node w (Err (cluster.AddressInUse pod)) h = refl
+refused-step_of_change node w (Err cluster.NoMemory) h = refl
 
-refused-step : (w : World) (s : Said) → IsTrue (is_refusal (step w s).outcome) → (step w s).world ≡ w
+refused-step : (w : World) (s : Item) → IsTrue (is_refusal (step w s).outcome) → (step w s).world ≡ w
 unfolding step
-refused-step w (Object change) h = refused-changes (is_node change) w (after w.cluster (change ∷ [])) h
+refused-step w (Object change) h = refused-step_of_change (is_node change) w (after w.cluster (change ∷ [])) h
 refused-step w (Control (Ask node question)) h = refl
 refused-step w Blank h = refl
 refused-step w (Refused r) h = refl
 
 pub refused_lines : RefusedLinesChangeNothing
-refused_lines w line h = refused-step w (said line) h
+refused_lines w line h = refused-step w (item_of line) h
 
 blank-step : (w : World) (n : ℕ) → ((step w Blank).world ≡ w) × (block_text n (step w Blank).outcome ≡ [])
 unfolding step block_text

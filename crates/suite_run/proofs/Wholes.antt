@@ -1,13 +1,13 @@
 -- Lines that were handed out, among all lines of files, and their blocks.
-use Rattle.std.proofs.Common.{◌≡◌, ℕ, suc, ◌+◌, ◌≤◌, Bool, true, false, ◌||◌, eqb, cond, MatchBool, List, [], ◌∷◌, ◌++◌, length, take, drop, All, refl, sym, ap, ◌∙◌, append_assoc, append-nil, subst, arith, length-append}
+use Rattle.std.proofs.Common.{◌≡◌, ℕ, ◌+◌, Bool, true, false, ◌||◌, MatchBool, List, [], ◌∷◌, ◌++◌, length, take, drop, All, refl, sym, ap, ◌∙◌, append_assoc, append-nil, subst, arith, length-append}
 use Rattle.std.proofs.Math.ListN.{get_or-append}
 use Rattle.std.proofs.Math.Seq.{get_or-append_seam}
 use Rattle.std.proofs.lemmas.List.{take-append-drop}
 use Rattle.std.proofs.lemmas.List.Elements.{All-head, All-tail}
-use Rattle.cl_io.specs.Files.{Entry, IsOfContent, IsEnded, names_of, byte_count}
-use Rattle.cl_io.specs.Lines.{lines_of, led_by, whole_lines}
-use Rattle.cl_io.specs.Reading.{Reading, IsBetween, IsAmid, Took}
-use Rattle.cl_io.specs.LinesLaws.{whole_lines-append, names_of-append, byte_count-append}
+use Rattle.cl_io.specs.Files.{Entry, IsOfContent, IsEnded, names_of}
+use Rattle.cl_io.specs.Lines.{lines_of, whole_lines}
+use Rattle.cl_io.specs.Reader.{Reading, IsBetween, IsAmid, Took}
+use Rattle.cl_io.specs.LinesLaws.{whole_lines-append, names_of-append}
 use Rattle.suite_run.specs.declared.world.World.{World}
 use Rattle.suite_run.specs.Blocks.{block_text, world_after, blocks, has_refusal}
 use Rattle.suite_run.specs.Run.{whole_files}
@@ -77,36 +77,6 @@ Begins-all content done r entries t holds =
       rest = b.rest ++ whole_lines left;
       split = ap whole_lines files ∙ (whole_lines-append (whole_files content (names_of entries)) left ∙ (ap (λ z. z ++ whole_lines left) b.split ∙ append_assoc done b.rest (whole_lines left)));
     }
-
--- ---- a line takes a byte or ends a file
-
-length-led_by : (ended : Bool) (byte : ℕ) (lines : List (List ℕ)) → length (led_by ended byte lines) ≤ length lines + 1
-length-led_by ended byte (line ∷ lines) = omega arith
-length-led_by true byte [] = omega arith
-length-led_by false byte [] = omega arith
-
-length-fed : (feed ended : Bool) (byte : ℕ) (lines : List (List ℕ)) (n : ℕ) → length lines ≤ n → length (cond feed ([] ∷ lines) (led_by ended byte lines)) ≤ suc n
-length-fed true ended byte lines n h = omega arith
-length-fed false ended byte lines n h = omega (arith, h, length-led_by ended byte lines)
-
-length-lines_of : (ended : Bool) (bytes : List ℕ) → length (lines_of ended bytes) ≤ length bytes
-length-lines_of ended [] = omega arith
-length-lines_of ended (byte ∷ bytes) = length-fed (eqb byte 10) ended byte (lines_of ended bytes) (length bytes) (length-lines_of ended bytes)
-
-length-whole_lines : (entries : List Entry) → length (whole_lines entries) ≤ byte_count entries
-length-whole_lines [] = omega arith
-length-whole_lines (entry ∷ entries) =
-    omega (arith, length-append (lines_of entry.ended entry.bytes) (whole_lines entries), length-lines_of entry.ended entry.bytes, length-whole_lines entries)
-
-count-took : (amid : Bool) (done : List (List ℕ)) (pending : List ℕ) (entries : List Entry) → MatchBool amid (IsAmid done pending entries) (IsBetween done pending entries) → length done ≤ byte_count entries
-count-took false done pending entries b = omega (arith, ap length b.lines, length-whole_lines entries)
-count-took true done pending entries a =
-    let earlier = a.cut.earlier in
-    let last = a.cut.last in
-    omega (arith, ap length (a.lines [] true), length-append (whole_lines earlier) (lines_of true (last.bytes ++ [])), length-append done (lines_of true (pending ++ [])), length-lines_of true (last.bytes ++ []), length-append last.bytes [], length-whole_lines earlier, ap byte_count a.cut.split, byte_count-append earlier (last ∷ []))
-
-pub line_count : (done : List (List ℕ)) (r : Reading) (entries : List Entry) → Took done r entries → length done ≤ r.total
-line_count done r entries t = omega (arith, count-took r.amid done r.pending entries t.lines, t.bytes)
 
 -- ---- blocks of more lines
 

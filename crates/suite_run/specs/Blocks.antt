@@ -2,12 +2,12 @@
 use Rattle.std.specs.Prelude.{ℕ, ◌+◌, List, [], ◌∷◌, ◌++◌, Bool, true, false, ◌||◌, codes, if◌then◌else◌}
 use Rattle.std.specs.Fmt.{decimal}
 use Rattle.cl_io.specs.Files.{Entry}
-use Rattle.cl_io.specs.Lines.{whole_lines}
+use Rattle.cl_io.specs.Lines.{line_feed, whole_lines}
 use Rattle.cl_types.specs.Written.{pod_text, judged_text}
-use Rattle.suite_run.specs.declared.said.Refusal.{Refusal}
-use Rattle.suite_run.specs.declared.said.Refusal.TheVariants.{NotJson, NotBuilt, TooLong, NodesFixed, AddressInUse, NoNode}
+use Rattle.suite_run.specs.declared.item.Refusal.{Refusal}
+use Rattle.suite_run.specs.declared.item.Refusal.TheVariants.{NotJson, NotBuilt, TooLong, NodesFixed, AddressInUse, NoNode}
 use Rattle.suite_run.specs.declared.world.World.{World}
-use Rattle.suite_run.specs.World.{Outcome, silent, revision, node_count, no_change, refused, judged, is_refusal, first_world, outcome, happens}
+use Rattle.suite_run.specs.World.{OutcomeData, silent, revision, node_count, no_change, refused, judged, is_refusal, first_world, outcome, happens}
 
 -- the refusal's name, and a space and the detail where there is one
 abbrev pub refusal_text : Refusal → List ℕ
@@ -18,7 +18,7 @@ refusal_text NodesFixed = codes "NodesFixed"
 refusal_text (AddressInUse pod) = codes "AddressInUse " ++ pod_text pod
 refusal_text NoNode = codes "NoNode"
 
-abbrev pub outcome_text : Outcome → List ℕ
+abbrev pub outcome_text : OutcomeData → List ℕ
 outcome_text silent = []
 outcome_text (revision r) = codes "revision " ++ decimal r
 outcome_text (node_count k) = codes "nodes " ++ decimal k
@@ -26,7 +26,7 @@ outcome_text no_change = codes "unchanged"
 outcome_text (refused r) = codes "refused " ++ refusal_text r
 outcome_text (judged r j) = codes "controller " ++ (decimal r ++ (codes " " ++ judged_text j))
 
-abbrev pub is_silent : Outcome → Bool
+abbrev pub is_silent : OutcomeData → Bool
 is_silent silent = true
 is_silent (revision r) = false
 is_silent (node_count k) = false
@@ -35,8 +35,8 @@ is_silent (refused r) = false
 is_silent (judged r j) = false
 
 -- the line's number, what is told of it, and a line feed; nothing where nothing is told
-unfoldable pub block_text : ℕ → Outcome → List ℕ
-block_text n o = if is_silent o then [] else (decimal n ++ (codes " " ++ (outcome_text o ++ (10 ∷ []))))
+unfoldable pub block_text : ℕ → OutcomeData → List ℕ
+block_text n o = if is_silent o then [] else (decimal n ++ (codes " " ++ (outcome_text o ++ (line_feed ∷ []))))
 
 -- the world after some lines
 abbrev pub world_after : World → List (List ℕ) → World

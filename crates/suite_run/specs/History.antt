@@ -1,12 +1,12 @@
 -- The clusters that the revisions of a run name (this project's own).
 use Rattle.std.specs.Prelude.{◌≡◌, ℕ, List, [], ◌∷◌, length, true, IsTrue}
-use Rattle.cluster_objects.specs.State.{ClusterData, no_objects}
+use Rattle.cluster_objects.specs.Cluster.{ClusterData, no_objects}
 use Rattle.suite_run.specs.declared.world.World.{World}
 use Rattle.suite_run.specs.Blocks.{world_after}
-use Rattle.suite_run.specs.World.{Outcome, silent, revision, node_count, no_change, refused, judged, first_world, outcome, happens}
+use Rattle.suite_run.specs.World.{OutcomeData, silent, revision, node_count, no_change, refused, judged, first_world, outcome, happens}
 
 -- a cluster comes before later ones where its line made a revision
-abbrev pub revised_to : Outcome → ClusterData → List ClusterData → List ClusterData
+abbrev pub revised_to : OutcomeData → ClusterData → List ClusterData → List ClusterData
 revised_to (revision r) c later = c ∷ later
 revised_to silent c later = later
 revised_to (node_count k) c later = later

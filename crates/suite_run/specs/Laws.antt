@@ -1,10 +1,9 @@
 -- What holds of all worlds and lines (this project's own).
-use Rattle.std.specs.Prelude.{◌≡◌, ℕ, ◌+◌, List, ◌∷◌, ◌++◌, length, ◌≤◌, All, Bool, IsTrue}
-use Rattle.cl_io.specs.Lines.{lines_of}
-use Rattle.suite_run.specs.declared.said.Said.TheVariants.{Blank}
+use Rattle.std.specs.Prelude.{◌≡◌, ℕ, ◌+◌, List, ◌∷◌, ◌++◌, length, IsTrue}
+use Rattle.suite_run.specs.declared.item.Item.TheVariants.{Blank}
 use Rattle.suite_run.specs.declared.world.World.{World}
 use Rattle.suite_run.specs.Blocks.{block_text, world_after, blocks}
-use Rattle.suite_run.specs.World.{byte_limit, said, is_refusal, outcome, happens}
+use Rattle.suite_run.specs.World.{item_of, is_refusal, outcome, happens}
 
 abbrev pub IsRefused : World → List ℕ → Type 0
 IsRefused w line = IsTrue (is_refusal (outcome w line))
@@ -24,11 +23,4 @@ RefusedLinesChangeNothing = (w : World) (line : List ℕ) → IsRefused w line �
 abbrev pub RefusedLinesAreAsBlank : Type 0
 RefusedLinesAreAsBlank =
     (number : ℕ) (w : World) (before : List (List ℕ)) (line blank : List ℕ) (after : List (List ℕ)) →
-    IsRefused (world_after w before) line → said blank ≡ Blank → SameBlocks number w before line blank after
-
-abbrev pub IsWithin : ℕ → List ℕ → Type 0
-IsWithin n line = length line ≤ n
-
--- no line of a text that may be read whole is refused for its length
-abbrev pub NoLineIsTooLong : Type 0
-NoLineIsTooLong = (ended : Bool) (bytes : List ℕ) → length bytes ≤ byte_limit → All (IsWithin byte_limit) (lines_of ended bytes)
+    IsRefused (world_after w before) line → item_of blank ≡ Blank → SameBlocks number w before line blank after

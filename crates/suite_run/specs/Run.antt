@@ -1,44 +1,49 @@
 -- What a run over files leaves of the files and of the sink (this project's own). Of what isn't told nothing is known.
-use Rattle.std.specs.Prelude.{◌≡◌, ℕ, ◌+◌, ◌<◌, ◌≤◌, Option, IsSome, IfSome, List, [], ◌∷◌, length, take, All, ⊤, Bool, true, false, IsTrue}
+use Rattle.std.specs.Prelude.{◌≡◌, ℕ, ◌+◌, ◌<◌, ◌≤◌, Option, None, IsSome, IfSome, List, [], ◌∷◌, length, take, All, ⊤, ◌↔◌, Bool, true, false, IsTrue}
+use Rattle.cl_types.specs.Causes.{Rose}
 use Rattle.cl_io.specs.declared.lines.LineFault.{LineFault}
 use Rattle.cl_io.specs.declared.lines.LineFault.TheVariants as fault
-use Rattle.cl_io.specs.Causes.{Rose}
-use Rattle.cl_io.specs.Files.{Entry, IsEnded, names_of, byte_count}
-use Rattle.cl_io.specs.Keeping.{Outside}
+use Rattle.cl_io.specs.Files.{Entry, FilesState, Lasts, Adds, AddsSome, StaysTold, IsEnded, names_of, byte_count}
 use Rattle.cl_io.specs.Lines.{first_bytes}
-use Rattle.cl_io.specs.Reading.{IsCutShort}
-use Rattle.cl_io.specs.Telling.{Adds, AddsSome, StaysTold}
+use Rattle.cl_io.specs.Reader.{IsCutShort}
+use Rattle.cl_io.specs.Sink.{SinkState, Endures}
 use Rattle.suite_run.specs.declared.status.Status.{Status}
 use Rattle.suite_run.specs.declared.status.Status.TheVariants.{Done, SomeRefused, BadWords, OpenFault, ReadFault, WriteFault, NoMemory, InputTooLong}
 use Rattle.suite_run.specs.Blocks.{out_of, any_refused}
-use Rattle.suite_run.specs.World.{byte_limit}
+use Rattle.suite_run.specs.Words.{words_mean}
+use Rattle.suite_run.specs.World.{input_limit}
+
+-- ---- the files that are named
 
 -- the files of these names, read to their end
 abbrev pub whole_files : (List ℕ → List ℕ) → List (List ℕ) → List Entry
 whole_files content [] = []
 whole_files content (name ∷ names) = record { name = name; bytes = content name; ended = true } ∷ whole_files content names
 
+-- the text of a run over all of these files
+abbrev pub text_due : List (List ℕ) → FilesState → List ℕ
+text_due names files = out_of (whole_files files.content names)
+
+-- The files tell of each of these names that is begun.
+pub record IsTelling (names : List (List ℕ)) (files : FilesState) : Type 0 where
+  pub known : All (λ name. IsTrue (files.knows name)) names
+  pub places : length names ≤ files.places
+  pub taken : IsSome files.taken
+
+-- ---- statuses
+
 -- the whole input was read and answered
 abbrev pub IsFinal : Status → Type 0
 IsFinal Done = ⊤
 IsFinal SomeRefused = ⊤
-IsFinal BadWords = ⊥
-IsFinal OpenFault = ⊥
-IsFinal ReadFault = ⊥
-IsFinal WriteFault = ⊥
-IsFinal NoMemory = ⊥
-IsFinal InputTooLong = ⊥
+IsFinal _ = ⊥
 
--- the same, or there was no memory
+-- the same, or the run ran out of memory
 abbrev pub IsAnswered : Status → Type 0
 IsAnswered Done = ⊤
 IsAnswered SomeRefused = ⊤
 IsAnswered NoMemory = ⊤
-IsAnswered BadWords = ⊥
-IsAnswered OpenFault = ⊥
-IsAnswered ReadFault = ⊥
-IsAnswered WriteFault = ⊥
-IsAnswered InputTooLong = ⊥
+IsAnswered _ = ⊥
 
 -- the status of a run over the whole input
 abbrev pub final_status : Bool → Status
@@ -51,71 +56,86 @@ fault_status fault.Read = ReadFault
 fault_status fault.InputTooLong = InputTooLong
 fault_status fault.NoMemory = NoMemory
 
--- told only where it was told before, and then with a part of the text at its end
-abbrev pub AddsFront : Option (List ℕ) → List ℕ → Option (List ℕ) → Type 0
-AddsFront old text new = (count : ℕ) × Adds old (take count text) new
+-- ---- what is printed
 
--- what is known of a sink
-pub record SinkView : Type 0 where
-  pub written : Option (List ℕ)
-  pub free : Option ℕ
-  pub faults : ℕ
-  pub steady : Bool
+-- told only where it was told before, and then with the front of a list at its end
+abbrev pub AddsFront : {A : Type 0} → Option (List A) → List A → Option (List A) → Type 0
+AddsFront old list new = (count : ℕ) × Adds old (take count list) new
 
--- The files tell of each of these names that is begun.
-pub record IsTelling (names : List (List ℕ)) (knows : List ℕ → Bool) (room : ℕ) (entries : Option (List Entry)) : Type 0 where
-  pub known : All (λ name. IsTrue (knows name)) names
-  pub places : length names ≤ room
-  pub taken : IsSome entries
+-- All files were read to their end, the blocks of all their lines were written, and the status says whether one is refused.
+pub record Prints (names : List (List ℕ)) (files : FilesState) (out : SinkState) (status : Status) (files' : FilesState) (out' : SinkState) : Type 0 where
+  pub taken : Adds files.taken (whole_files files.content names) files'.taken
+  pub written : IsSome files'.taken → Adds out.written (text_due names files) out'.written
+  pub refused : IsSome files'.taken → status ≡ final_status (any_refused (whole_files files.content names))
+
+-- ---- where a run stops
 
 -- The file after those that were taken can't be begun. Those were read to their end, and their blocks written.
-pub record IsUnopened (names : List (List ℕ)) (names_tried names_tried' : Option (List (List ℕ))) (bytes bytes' : Option (List ℕ)) (entries : List Entry) : Type 0 where
+pub record IsUnopened (names : List (List ℕ)) (files : FilesState) (out : SinkState) (files' : FilesState) (out' : SinkState) (entries : List Entry) : Type 0 where
   pub ended : All IsEnded entries
   pub named : names_of entries ≡ take (length entries) names
   pub fewer : length entries < length names
-  pub tried : Adds names_tried (take (length entries + 1) names) names_tried'
-  pub written : Adds bytes (out_of entries) bytes'
+  pub tried : Adds files.tried (take (length entries + 1) names) files'.tried
+  pub written : Adds out.written (out_of entries) out'.written
 
 -- The file that was taken last can't be read on. The blocks of all whole lines were written.
-pub record IsUnreadable (names : List (List ℕ)) (names_tried names_tried' : Option (List (List ℕ))) (bytes bytes' : Option (List ℕ)) (entries : List Entry) : Type 0 where
+pub record IsUnreadable (names : List (List ℕ)) (files : FilesState) (out : SinkState) (files' : FilesState) (out' : SinkState) (entries : List Entry) : Type 0 where
   pub cut : IsCutShort entries
   pub named : names_of entries ≡ take (length entries) names
-  pub tried : Adds names_tried (names_of entries) names_tried'
-  pub written : Adds bytes (out_of entries) bytes'
+  pub tried : Adds files.tried (names_of entries) files'.tried
+  pub written : Adds out.written (out_of entries) out'.written
 
 -- One byte more came than is read. The blocks of all lines were written that were whole before it.
-pub record IsOverfull (names : List (List ℕ)) (bytes bytes' : Option (List ℕ)) (entries : List Entry) : Type 0 where
+pub record IsOverfull (names : List (List ℕ)) (out out' : SinkState) (entries : List Entry) : Type 0 where
   pub named : names_of entries ≡ take (length entries) names
-  pub over : byte_count entries ≡ byte_limit + 1
-  pub written : Adds bytes (out_of (first_bytes byte_limit entries)) bytes'
+  pub over : byte_count entries ≡ input_limit + 1
+  pub written : Adds out.written (out_of (first_bytes input_limit entries)) out'.written
 
--- What a run over the files of these names leaves, by its status.
-pub record Ran (names : List (List ℕ)) (files : Outside) (sink : SinkView) (status : Status) (files' : Outside) (sink' : SinkView) : Type 0 where
-  pub words : status ≡ BadWords → ⊥
-  -- the whole output
-  pub taken : IsFinal status → Adds files.told.taken (whole_files files.content names) files'.told.taken
-  pub written : IsFinal status → IsSome files'.told.taken → Adds sink.written (out_of (whole_files files.content names)) sink'.written
-  pub refused : IsFinal status → IsSome files'.told.taken → status ≡ final_status (any_refused (whole_files files.content names))
-  -- a part of it
-  pub unopened : status ≡ OpenFault → AddsSome files.told.taken (IsUnopened names files.told.tried files'.told.tried sink.written sink'.written) files'.told.taken
-  pub unreadable : status ≡ ReadFault → AddsSome files.told.taken (IsUnreadable names files.told.tried files'.told.tried sink.written sink'.written) files'.told.taken
-  pub overfull : status ≡ InputTooLong → AddsSome files.told.taken (IsOverfull names sink.written sink'.written) files'.told.taken
-  pub within : (status ≡ InputTooLong → ⊥) → (status ≡ NoMemory → ⊥) → AddsSome files.told.taken (λ entries. byte_count entries ≤ byte_limit) files'.told.taken
-  pub front : IsTelling names files.knows files.places files.told.taken → AddsFront sink.written (out_of (whole_files files.content names)) sink'.written
-  -- causes of failures
-  pub open_cause : status ≡ OpenFault → Rose files.faults files'.faults
-  pub read_cause : status ≡ ReadFault → Rose files.faults files'.faults
-  pub write_cause : status ≡ WriteFault → Rose sink.faults sink'.faults
-  pub complete : (Rose files.faults files'.faults → ⊥) → (Rose sink.faults sink'.faults → ⊥) → IsSome files'.told.taken
-      → byte_count (whole_files files.content names) ≤ byte_limit → IsAnswered status
-  pub later : files.faults ≤ files'.faults
-  pub sink_later : sink.faults ≤ sink'.faults
+-- With every status: the named files were tried in order, and what is written is the front of the text that is due.
+-- After a fault of the input the text goes as far as the whole lines that were taken.
+pub record Stops (names : List (List ℕ)) (files : FilesState) (out : SinkState) (status : Status) (files' : FilesState) (out' : SinkState) : Type 0 where
+  pub tried : AddsFront files.tried names files'.tried
+  pub written : IsSome files'.taken → AddsFront out.written (text_due names files) out'.written
+  pub within : (status ≡ InputTooLong → ⊥) → (status ≡ NoMemory → ⊥) → AddsSome files.taken (λ entries. byte_count entries ≤ input_limit) files'.taken
+  pub unopened : status ≡ OpenFault → AddsSome files.taken (IsUnopened names files out files' out') files'.taken
+  pub unreadable : status ≡ ReadFault → AddsSome files.taken (IsUnreadable names files out files' out') files'.taken
+  pub overfull : status ≡ InputTooLong → AddsSome files.taken (IsOverfull names out out') files'.taken
+
+-- ---- why
+
+-- A fault is told only where it was counted, where none is counted the whole input is answered, and none is counted
+-- of steady files that are there and of a steady sink with room for the text that is due.
+pub record Causes (names : List (List ℕ)) (files : FilesState) (out : SinkState) (status : Status) (files' : FilesState) (out' : SinkState) : Type 0 where
+  pub begin : status ≡ OpenFault → Rose files.faults files'.faults
+  pub read : status ≡ ReadFault → Rose files.faults files'.faults
+  pub write : status ≡ WriteFault → Rose out.faults out'.faults
+  pub complete : (status ≡ BadWords → ⊥) → (Rose files.faults files'.faults → ⊥) → (Rose out.faults out'.faults → ⊥) → IsSome files'.taken
+      → byte_count (whole_files files.content names) ≤ input_limit → IsAnswered status
   pub faultless : IsTrue files.steady → All (λ name. IsTrue (files.there name)) names → files'.faults ≡ files.faults
-  pub sink_faultless : IsTrue sink.steady → IsTelling names files.knows files.places files.told.taken
-      → IfSome sink.free (λ room. length (out_of (whole_files files.content names)) ≤ room → sink'.faults ≡ sink.faults)
-  -- what is told
-  pub tried_told : IsTelling names files.knows files.places files.told.taken → StaysTold files.told.tried files'.told.tried
-  pub taken_told : IsTelling names files.knows files.places files.told.taken → IsSome files'.told.taken
-  pub content : files'.content ≡ files.content
-  pub knows : files'.knows ≡ files.knows
-  pub there : files'.there ≡ files.there
+  pub sink_faultless : IsTrue out.steady → IsTelling names files
+      → IfSome out.free (λ room. length (text_due names files) ≤ room → out'.faults ≡ out.faults)
+
+-- ---- what stays
+
+-- The files are the same and count their faults on, and so does the sink. What files tell of all names they tell still.
+pub record Stays (names : List (List ℕ)) (files : FilesState) (out : SinkState) (files' : FilesState) (out' : SinkState) : Type 0 where
+  pub lasts : Lasts files files'
+  pub endures : Endures out out'
+  pub tried : IsTelling names files → StaysTold files.tried files'.tried
+  pub taken : IsTelling names files → IsSome files'.taken
+
+-- ---- a run
+
+-- Exactly words that mean nothing are bad words, and then no file is begun and nothing is printed.
+pub record MeansNothing (words : List (List ℕ)) (files : FilesState) (out : SinkState) (status : Status) (files' : FilesState) (out' : SinkState) : Type 0 where
+  pub exactly : (status ≡ BadWords) ↔ (words_mean words ≡ None)
+  pub files_left : status ≡ BadWords → files' ≡ files
+  pub sink_left : status ≡ BadWords → out' ≡ out
+
+-- what a run over the files of these names leaves
+pub record Ran (names : List (List ℕ)) (files : FilesState) (out : SinkState) (status : Status) (files' : FilesState) (out' : SinkState) : Type 0 where
+  pub words : status ≡ BadWords → ⊥
+  pub prints : IsFinal status → Prints names files out status files' out'
+  pub stops : Stops names files out status files' out'
+  pub causes : Causes names files out status files' out'
+  pub stays : Stays names files out files' out'

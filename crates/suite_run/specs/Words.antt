@@ -1,8 +1,10 @@
 -- What the words of a call mean, and what is told of a run beside its output (this project's own).
 use Rattle.std.specs.Prelude.{◌≡◌, ℕ, Option, Some, None, unwrap_or, List, [], ◌∷◌, ◌++◌, length, take, codes, if◌then◌else◌, ◌⊎◌}
-use Rattle.cl_io.specs.Causes.{Rose}
-use Rattle.cl_io.specs.Telling.{Adds}
-use Rattle.cl_types.specs.Equality.{text_eq}
+use Rattle.cl_types.specs.Causes.{Rose}
+use Rattle.cl_io.specs.Files.{Adds}
+use Rattle.cl_io.specs.Lines.{line_feed}
+use Rattle.cl_io.specs.Sink.{SinkState}
+use Rattle.cl_types.specs.Text.{text_eq}
 use Rattle.suite_run.specs.declared.status.Status.{Status}
 use Rattle.suite_run.specs.declared.status.Status.TheVariants.{Done, SomeRefused, BadWords, OpenFault, ReadFault, WriteFault, NoMemory, InputTooLong}
 
@@ -18,7 +20,7 @@ abbrev pub file_of : List (List ℕ) → List ℕ
 file_of words = unwrap_or (words_mean words) []
 
 abbrev pub line_of : List ℕ → List ℕ
-line_of text = text ++ (10 ∷ [])
+line_of text = text ++ (line_feed ∷ [])
 
 -- what is written beside the output
 unfoldable pub complaint : Status → List ℕ → List ℕ
@@ -31,8 +33,8 @@ complaint WriteFault name = []
 complaint NoMemory name = []
 complaint InputTooLong name = line_of (codes "antrea: input too long")
 
--- the text stands at the end, or, where the sink failed, a part of it
-pub record Says (text : List ℕ) (faults : ℕ) (written : Option (List ℕ)) (faults' : ℕ) (written' : Option (List ℕ)) : Type 0 where
+-- the text stands at the end, or, where the sink failed, the front of it
+pub record Says (text : List ℕ) (old new : SinkState) : Type 0 where
   pub count : ℕ
-  pub adds : Adds written (take count text) written'
-  pub whole : (count ≡ length text) ⊎ Rose faults faults'
+  pub adds : Adds old.written (take count text) new.written
+  pub whole : (count ≡ length text) ⊎ Rose old.faults new.faults

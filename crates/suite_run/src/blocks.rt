@@ -5,62 +5,66 @@ ghost use Rattle.suite_run.specs.Blocks.{refusal_text, outcome_text, is_silent, 
 ghost use Rattle.suite_run.specs.Shown.{outcome_of};
 ghost use Rattle.suite_run.specs.World.{is_refusal};
 
-use crate::said::Refusal;
-use crate::world::Answer;
+use crate::item::Refusal;
+use crate::world::LineOutcome;
 use cl_types::{NoMemory, Text, write_bytes, write_judged, write_number, write_pod};
 use std::alloc::Global;
 
 /// What is printed of a line, and whether it says that the line is refused.
 #[derive(Debug, Drop)]
-pub(crate) struct Block {
+pub(crate) struct LineBlock {
     pub(crate) text: Text,
     pub(crate) refusal: bool,
 }
 
 /// The block of a line with this number.
 #[tactic(auto, unfolding(crate::specs::Blocks::block_text))]
-pub(crate) fn block_of(alloc: Global, number: u64, answer: &Answer) -> Result<Block, NoMemory>
-    ensures text { IfOk result (λ b. b.text ≡ block_text number (outcome_of answer.now)) }
-    ensures refusal { IfOk result (λ b. b.refusal ≡ is_refusal (outcome_of answer.now)) }
+pub(crate) fn block_of(
+    alloc: Global,
+    number: u64,
+    outcome: &LineOutcome,
+) -> Result<LineBlock, NoMemory>
+    ensures text { IfOk result (λ b. b.text ≡ block_text number (outcome_of outcome.now)) }
+    ensures refusal { IfOk result (λ b. b.refusal ≡ is_refusal (outcome_of outcome.now)) }
 {
     let mut text = Text::new(alloc);
-    if !is_silent(answer) {
+    if !is_silent(outcome) {
         write_number(&mut text, number)?;
         write_bytes(&mut text, b" ")?;
-        write_answer(&mut text, answer)?;
+        write_outcome(&mut text, outcome)?;
         write_bytes(&mut text, b"\n")?;
     }
-    Ok(Block {
+    Ok(LineBlock {
         text,
-        refusal: is_refusal(answer),
+        refusal: is_refusal(outcome),
     })
 }
 
-fn is_silent(answer: &Answer) -> bool
-    ensures { result ≡ is_silent (outcome_of answer.now) }
+fn is_silent(outcome: &LineOutcome) -> bool
+    ensures { result ≡ is_silent (outcome_of outcome.now) }
 {
-    matches!(answer, Answer::Silent)
+    matches!(outcome, LineOutcome::Silent)
 }
 
-fn is_refusal(answer: &Answer) -> bool
-    ensures { result ≡ is_refusal (outcome_of answer.now) }
+fn is_refusal(outcome: &LineOutcome) -> bool
+    ensures { result ≡ is_refusal (outcome_of outcome.now) }
 {
-    matches!(answer, Answer::Refused(_))
+    matches!(outcome, LineOutcome::Refused(_))
 }
 
-fn write_answer(out: &mut Text, answer: &Answer) -> Result<(), NoMemory>
-    ensures { OnOk result (out.new ≡ out.old ++ outcome_text (outcome_of answer.now)) }
+fn write_outcome(out: &mut Text, outcome: &LineOutcome) -> Result<(), NoMemory>
+    ensures { OnOk result (out.new ≡ out.old ++ outcome_text (outcome_of outcome.now)) }
 {
-    match answer {
-        Answer::Silent => Ok(()),
-        Answer::Revision(revision) => write_counted(out, b"revision ", *revision),
-        Answer::Nodes(count) => write_counted(out, b"nodes ", *count),
-        Answer::Unchanged => write_bytes(out, b"unchanged"),
-        Answer::Refused(refusal) => {
+    match outcome {
+        LineOutcome::Silent => Ok(()),
+        LineOutcome::Revision(revision) => write_counted(out, b"revision ", *revision),
+        LineOutcome::Nodes(count) => write_counted(out, b"nodes ", *count),
+        LineOutcome::Unchanged => write_bytes(out, b"unchanged"),
+        LineOutcome::Refused(refusal) => {
             write_bytes(out, b"refused ")?;
             write_refusal(out, refusal)
         }
-        Answer::Controller(revision, judged) => {
+        LineOutcome::Controller(revision, judged) => {
             write_counted(out, b"controller ", *revision)?;
             write_bytes(out, b" ")?;
             write_judged(out, judged)

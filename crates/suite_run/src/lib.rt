@@ -2,17 +2,17 @@
 #![tactic(auto)]
 
 mod blocks;
+mod item;
 mod laws;
 mod replay;
-mod said;
 mod site;
 mod status;
+mod take;
 mod top;
-mod turn;
 mod words;
 mod world;
 
-pub use laws::{no_line_is_too_long, refused_lines_change_nothing, revisions_have_their_clusters};
+pub use laws::{refused_lines_change_nothing, revisions_have_their_clusters};
 pub use site::Site;
 pub use status::Status;
 pub use top::calm;

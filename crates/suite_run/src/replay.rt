@@ -1,11 +1,12 @@
 //! The run over the lines of files.
 ghost use Rattle.std.specs.Prelude.{◌≡◌, ◌↔◌, [], IsTrue};
-ghost use Rattle.cl_io.specs.Reading.{Told, told, Stands, reading_of};
-ghost use Rattle.suite_run.specs.Run.{Ran, SinkView};
-ghost use Rattle.suite_run.specs.World.{byte_limit};
+ghost use Rattle.cl_io.specs.Files.{FilesState};
+ghost use Rattle.cl_io.specs.Reader.{Stands, reading_of};
+ghost use Rattle.suite_run.specs.Run.{Ran};
+ghost use Rattle.suite_run.specs.World.{line_limit, input_limit};
 
 use crate::status::Status;
-use crate::turn::turn;
+use crate::take::take_line;
 use crate::world::World;
 use cl_io::{Files, Line, Lines, Sink, put};
 use std::alloc::Global;
@@ -17,14 +18,9 @@ pub(crate) fn replay<F: Files, O: Sink>(
     files: &mut F,
     out: &mut O,
 ) -> Status
-    requires fresh { lines.old ≡ reading_of lines.old.names byte_limit byte_limit }
-    requires stands { (base : Told) → Stands base [] lines.old base }
-    ensures { Ran lines.old.names
-        (record { told = told (F.tried files.old) (F.taken files.old); places = F.places files.old; faults = F.faults files.old; steady = F.steady files.old; content = F.content files.old; knows = F.knows files.old; there = F.there files.old })
-        (record { written = O.written out.old; free = O.free out.old; faults = O.faults out.old; steady = O.steady out.old })
-        result
-        (record { told = told (F.tried files.new) (F.taken files.new); places = F.places files.new; faults = F.faults files.new; steady = F.steady files.new; content = F.content files.new; knows = F.knows files.new; there = F.there files.new })
-        (record { written = O.written out.new; free = O.free out.new; faults = O.faults out.new; steady = O.steady out.new }) }
+    requires fresh { lines.old ≡ reading_of lines.old.names line_limit input_limit }
+    requires stands { (base : FilesState) → Stands base [] lines.old base }
+    ensures { Ran lines.old.names (F.state files.old) (O.state out.old) result (F.state files.new) (O.state out.new) }
 {
     let Ok(mut world) = World::new(alloc) else {
         return Status::NoMemory;
@@ -38,7 +34,7 @@ pub(crate) fn replay<F: Files, O: Sink>(
         if is_end(&line) {
             return Status::of_whole(refused);
         }
-        let Ok(block) = turn(alloc, &mut world, number, &line) else {
+        let Ok(block) = take_line(alloc, &mut world, number, &line) else {
             return Status::NoMemory;
         };
         if put(out, block.text.as_slice()).is_err() {
@@ -46,7 +42,8 @@ pub(crate) fn replay<F: Files, O: Sink>(
         }
         refused = refused || block.refusal;
     }
-    Status::InputTooLong
+    // Each line uses up a byte of the input, which has a limit.
+    unreachable!()
 }
 
 fn is_end(line: &Line) -> bool

@@ -4,7 +4,6 @@ use cl_types::{List, NoMemory, Text};
 use std::alloc::{AllocError, Global};
 use std::process::Abort;
 
-mod copies;
 mod rows;
 
 // What a run over files and sinks in memory came to.

@@ -19,7 +19,7 @@ pub(crate) fn replayed_file(words: &[String]) -> Option<&str>
 /// Tells why there isn't the whole output, where the status wants it. A failure changes nothing.
 #[tactic(auto, unfolding(crate::specs::Words::complaint))]
 pub(crate) fn complain<E: Sink>(err: &mut E, status: Status, name: &[u8])
-    ensures { Says (complaint status name.now) (E.faults err.old) (E.written err.old) (E.faults err.new) (E.written err.new) }
+    ensures { Says (complaint status name.now) (E.state err.old) (E.state err.new) }
 {
     match status {
         Status::BadWords => say(
@@ -34,19 +34,19 @@ pub(crate) fn complain<E: Sink>(err: &mut E, status: Status, name: &[u8])
 }
 
 fn say<E: Sink>(err: &mut E, text: &[u8])
-    ensures { Says text.now (E.faults err.old) (E.written err.old) (E.faults err.new) (E.written err.new) }
+    ensures { Says text.now (E.state err.old) (E.state err.new) }
 {
     let _ = put(err, text);
 }
 
 fn say_of<E: Sink>(err: &mut E, front: &[u8], name: &[u8])
-    ensures { Says (front.now ++ line_of name.now) (E.faults err.old) (E.written err.old) (E.faults err.new) (E.written err.new) }
+    ensures { Says (front.now ++ line_of name.now) (E.state err.old) (E.state err.new) }
 {
     let _ = put_of(err, front, name);
 }
 
 fn put_of<E: Sink>(err: &mut E, front: &[u8], name: &[u8]) -> Result<(), Failed>
-    ensures { Says (front.now ++ line_of name.now) (E.faults err.old) (E.written err.old) (E.faults err.new) (E.written err.new) }
+    ensures { Says (front.now ++ line_of name.now) (E.state err.old) (E.state err.new) }
 {
     put(err, front)?;
     put(err, name)?;

@@ -1,13 +1,13 @@
 //! What is known between two lines, and what a line changes in it.
 ghost use Rattle.std.specs.Prelude.{◌≡◌, ℕ, ◌+◌, ◌^◌, ◌<◌, ◌≤◌, List, [], ◌∷◌, length, IfOk};
 ghost use Rattle.std.specs.List.{list_any};
-ghost use Rattle.cl_types.specs.Equality.{text_eq};
+ghost use Rattle.cl_types.specs.Text.{text_eq};
 ghost use Rattle.cluster_objects.specs.Apply.{after};
-ghost use Rattle.cluster_objects.specs.Objects.{NodeData};
+ghost use Rattle.cluster_objects.specs.Node.{NodeData};
 ghost use Rattle.suite_run.specs.Shown.{outcome_of};
-ghost use Rattle.suite_run.specs.World.{first_world, is_node, is_listed, answer, changes, differs};
+ghost use Rattle.suite_run.specs.World.{first_world, is_node, is_listed, answer, step_of_change, differs};
 
-use crate::said::Refusal;
+use crate::item::Refusal;
 use cl_types::{Judged, NoMemory, Question, Text};
 use cluster_objects::{Applied, Change, Cluster, ClusterRefusal, NodeInfo, Object};
 use policy_order::judge;
@@ -22,7 +22,7 @@ pub(crate) struct World {
 
 /// What is told of a line.
 #[derive(Debug, Drop)]
-pub(crate) enum Answer<'c> {
+pub(crate) enum LineOutcome<'c> {
     Silent,
     Revision(u64),
     /// How many nodes there are.
@@ -58,44 +58,44 @@ impl World {
     }
 
     /// Makes a change.
-    pub(crate) fn change(&mut self, change: Change) -> Result<Answer<'static>, NoMemory>
+    pub(crate) fn change(&mut self, change: Change) -> Result<LineOutcome<'static>, NoMemory>
         requires { self.old.revision + 1 < 2 ^ 64 }
-        ensures { IfOk result (λ told. changes (is_node change) self.old (after self.old.cluster (change ∷ []))
-            ≡ record { world = self.new; outcome = outcome_of told }) }
+        ensures { IfOk result (λ outcome. step_of_change (is_node change) self.old (after self.old.cluster (change ∷ []))
+            ≡ record { world = self.new; outcome = outcome_of outcome }) }
     {
         cluster_objects::one_change_is_a_list();
         let is_node = is_node(&change);
         match self.cluster.try_apply(change) {
-            Ok(Applied::Unchanged) => Ok(Answer::Unchanged),
+            Ok(Applied::Unchanged) => Ok(LineOutcome::Unchanged),
             Ok(Applied::Changed) => Ok(self.changed(is_node)),
-            Err(ClusterRefusal::NodesFixed) => Ok(Answer::Refused(Refusal::NodesFixed)),
+            Err(ClusterRefusal::NodesFixed) => Ok(LineOutcome::Refused(Refusal::NodesFixed)),
             Err(ClusterRefusal::AddressInUse(pod)) => {
-                Ok(Answer::Refused(Refusal::AddressInUse(pod)))
+                Ok(LineOutcome::Refused(Refusal::AddressInUse(pod)))
             }
             Err(ClusterRefusal::NoMemory) => Err(NoMemory),
         }
     }
 
     // Tells of a change that made a difference, and counts it where it isn't a Node's.
-    fn changed(&mut self, is_node: bool) -> Answer<'static>
+    fn changed(&mut self, is_node: bool) -> LineOutcome<'static>
         requires { self.old.revision + 1 < 2 ^ 64 }
         ensures { differs is_node self.old ≡ record { world = self.new; outcome = outcome_of result } }
     {
         if is_node {
-            return Answer::Nodes(self.cluster.nodes().as_slice().len() as u64);
+            return LineOutcome::Nodes(self.cluster.nodes().as_slice().len() as u64);
         }
         self.revision += 1;
-        Answer::Revision(self.revision)
+        LineOutcome::Revision(self.revision)
     }
 
     /// Answers a question.
-    pub(crate) fn answer(&self, node: &Text, question: &Question) -> Answer<'_>
+    pub(crate) fn answer(&self, node: &Text, question: &Question) -> LineOutcome<'_>
         ensures { outcome_of result ≡ answer self.now node.now question.now }
     {
         if self.is_listed(node) {
-            Answer::Controller(self.revision, judge(&self.cluster, node, question))
+            LineOutcome::Controller(self.revision, judge(&self.cluster, node, question))
         } else {
-            Answer::Refused(Refusal::NoNode)
+            LineOutcome::Refused(Refusal::NoNode)
         }
     }
 

@@ -5,7 +5,7 @@ use Rattle.std.specs.declared.cmp.Ordering.{Ordering}
 use Rattle.std.specs.declared.cmp.Ordering.TheVariants.{Less, Equal, Greater}
 use Rattle.std.specs.Ordering.{is_eq, match_ordering, ordering_reverse}
 use Rattle.std.proofs.lemmas.Cmp.{nat_list_cmp_total}
-use Rattle.cl_types.specs.declared.traffic.Stream.{Stream}
+use Rattle.cl_types.specs.declared.stream.Stream.{Stream}
 use Rattle.cl_types.specs.Ascending.{found, put}
 use Rattle.cl_types.specs.AscendingLaws.{found_put, ascends_put}
 use Rattle.label_select.specs.Group.{Group}
@@ -15,11 +15,12 @@ use Rattle.watch_streams.specs.declared.message.StreamChange.TheVariants as chan
 use Rattle.watch_streams.specs.declared.message.StreamObject.{StreamObject}
 use Rattle.watch_streams.specs.declared.message.StreamObject.TheVariants as object
 use Rattle.watch_streams.specs.Difference.{belongs, members_of, patched, put_object, without, after_change, after_changes}
-use Rattle.watch_streams.specs.Names.{changed_name, name_text, object_text, text_order, at_text, AscendByName}
+use Rattle.cl_types.specs.Text.{text_order}
+use Rattle.watch_streams.specs.Names.{changed_name, name_text, object_text, at_text, AscendByName}
 use Rattle.watch_streams.specs.Net.{MemberData}
-use Rattle.watch_streams.proofs.AscendingEdits.{passed, ascends_filter, found_filter, found_at}
-use Rattle.watch_streams.proofs.AscendingMaps.{none_behind}
-use Rattle.watch_streams.proofs.MemberOrder.{text_exact}
+use Rattle.cl_types.specs.AscendingLaws.{passed, ascends_filter, found_filter, found_at}
+use Rattle.cl_types.specs.AscendingLaws.{none_behind}
+use Rattle.cl_types.specs.OrderLaws.{text_order_exact}
 
 abbrev pub change_text : StreamChange → List ℕ
 change_text c = name_text (changed_name c)
@@ -90,7 +91,7 @@ found_without u t held up =
     kept : (x : Option StreamObject) → found (at_text t) held ≡ x → passed (λ o. not (is_eq (at_text u o))) x ≡ (if is_eq (text_order u t) then None else x)
     kept None e = sym (either_way (is_eq (text_order u t)) None)
     kept (Some o) e =
-        let there : object_text o ≡ t = text_exact (object_text o) t (found_at (at_text t) held o e) in
+        let there : object_text o ≡ t = text_order_exact (object_text o) t (found_at (at_text t) held o e) in
         ap (λ b. if not b then Some o else None) (ap (λ z. is_eq (text_order z u)) there ∙ eq_back t u) ∙ turned (is_eq (text_order u t)) (Some o)
 
 found_change : (s : Stream) (c : StreamChange) (t : List ℕ) (held : List StreamObject) → AscendByName held
@@ -106,7 +107,7 @@ found_change s (change.Patch group added removed) t held up =
     by_order : (r : Ordering) → text_order (group_text group) t ≡ r
         → (if is_eq r then put_cell s (there (group_text group)) (found (at_text t) held) else found (at_text t) held) ≡ (if is_eq r then put_cell s (there t) (found (at_text t) held) else found (at_text t) held)
     by_order Less is = refl
-    by_order Equal is = ap (λ u. put_cell s (there u) (found (at_text t) held)) (text_exact (group_text group) t is)
+    by_order Equal is = ap (λ u. put_cell s (there u) (found (at_text t) held)) (text_order_exact (group_text group) t is)
     by_order Greater is = refl
 
 -- at most one change, under this name
@@ -162,7 +163,7 @@ found_changes s changes each (m ∷ ms) held mp up t =
     by_order Equal is =
         let here : found (at_text t) held1 ≡ cells s (changes u) (found (at_text t) held) = first ∙ ap (λ r. if is_eq r then cells s (changes u) (found (at_text t) held) else found (at_text t) held) is in
         ap (λ x. where_there x (cells s (changes t) (found (at_text t) held1)) (found (at_text t) held1)) (none Equal is (λ q. cc))
-        ∙ (here ∙ ap (λ z. cells s (changes z) (found (at_text t) held)) (text_exact u t is))
+        ∙ (here ∙ ap (λ z. cells s (changes z) (found (at_text t) held)) (text_order_exact u t is))
     by_order Greater is =
         let same : found (at_text t) held1 ≡ found (at_text t) held = first ∙ ap (λ r. if is_eq r then cells s (changes u) (found (at_text t) held) else found (at_text t) held) is in
         ap (λ x. where_there x (cells s (changes t) (found (at_text t) held1)) (found (at_text t) held1)) (none Greater is (λ q. cc)) ∙ same

@@ -6,10 +6,11 @@ use Rattle.std.specs.declared.cmp.Ordering.TheVariants.{Less, Equal, Greater}
 use Rattle.std.specs.Ordering.{is_eq, match_ordering}
 use Rattle.std.proofs.lemmas.Cmp.{nat_list_cmp_total}
 use Rattle.cl_types.specs.declared.addr.Addr.{Addr}
-use Rattle.cl_types.specs.declared.traffic.Stream.{Stream}
+use Rattle.cl_types.specs.declared.stream.Stream.{Stream}
 use Rattle.cl_types.specs.Addr.{addr_order}
 use Rattle.cl_types.specs.Ascending.{Ascends, found}
-use Rattle.cl_types.specs.AscendingLaws.{all_put, found_put, ascends_put}
+use Rattle.cl_types.specs.Text.{text_order_total}
+use Rattle.cl_types.specs.AscendingLaws.{ascends_sorted, all_sorted, found_put}
 use Rattle.cl_types.specs.Equality.{is_same}
 use Rattle.cl_types.specs.EqualityLaws.{is_same-one}
 use Rattle.label_select.specs.Group.{Group, IsGroup}
@@ -22,12 +23,13 @@ use Rattle.watch_streams.specs.declared.net.NetEgress as egress
 use Rattle.watch_streams.specs.declared.net.NetPolicy as policy
 use Rattle.watch_streams.specs.Difference.{belongs, members_without, patched, patch, unless_same, replaced, changed, difference, after_changes}
 use Rattle.watch_streams.specs.Laws.{HasAscendingMembers, HasGroupForm, IsMap, DifferencesLeadToTheNewMap}
-use Rattle.watch_streams.specs.Names.{object_text, text_order, at_text, by_name, AscendByName}
+use Rattle.cl_types.specs.Text.{text_order}
+use Rattle.watch_streams.specs.Names.{object_text, at_text, by_name, AscendByName}
 use Rattle.watch_streams.specs.Net.{MemberData, member_order}
-use Rattle.watch_streams.proofs.AscendingEdits.{found_holds, found_at}
-use Rattle.watch_streams.proofs.AscendingMaps.{equal_maps, none_behind}
+use Rattle.cl_types.specs.AscendingLaws.{found_holds, found_at}
+use Rattle.cl_types.specs.AscendingLaws.{equal_maps, none_behind}
 use Rattle.watch_streams.proofs.Cells.{IsAt, cells, ascends_changes, where_there, found_changes}
-use Rattle.watch_streams.proofs.MemberOrder.{text_exact}
+use Rattle.cl_types.specs.OrderLaws.{text_order_exact}
 use Rattle.watch_streams.proofs.Members.{patched_is, unpatched_is}
 
 -- ---- the map of some objects
@@ -38,13 +40,11 @@ first_at t [] = None
 first_at t (o ∷ os) = if is_eq (text_order (object_text o) t) then Some o else first_at t os
 
 pub ascends_by_name : (os : List StreamObject) → AscendByName (by_name os)
-ascends_by_name [] = tt
-ascends_by_name (o ∷ os) = ascends_put object_text nat_list_cmp_total o (by_name os) (ascends_by_name os)
+ascends_by_name = ascends_sorted object_text text_order_total
 
 -- what holds of all objects holds of all of their map
 pub all_by_name : (P : StreamObject → Type 0) (os : List StreamObject) → AllByRecursion P os → AllByRecursion P (by_name os)
-all_by_name P [] h = tt
-all_by_name P (o ∷ os) h = all_put (at_text (object_text o)) P o (by_name os) h.0 (all_by_name P os h.1)
+all_by_name = all_sorted object_text text_order
 
 found_by_name : (t : List ℕ) (os : List StreamObject) → found (at_text t) (by_name os) ≡ first_at t os
 found_by_name t [] = refl
@@ -94,7 +94,7 @@ HasText u (Some o) = object_text o ≡ u
 
 pub found_text : (u : List ℕ) (os : List StreamObject) (x : Option StreamObject) → found (at_text u) os ≡ x → HasText u x
 found_text u os None e = tt
-found_text u os (Some o) e = text_exact (object_text o) u (found_at (at_text u) os o e)
+found_text u os (Some o) e = text_order_exact (object_text o) u (found_at (at_text u) os o e)
 
 patch_at : (u : List ℕ) (group : Group) → group_text group ≡ u → (added removed : List MemberData) → IsAt u (patch group added removed)
 patch_at u group e [] [] = tt

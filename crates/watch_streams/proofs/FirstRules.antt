@@ -11,7 +11,10 @@ use Rattle.cl_types.specs.Judgement.{Judgement}
 use Rattle.cl_types.specs.RuleOrder.{policy_order, rule_order, rule_order_total}
 use Rattle.cluster_objects.specs.declared.policy.Rule.{Rule}
 use Rattle.cluster_objects.specs.Evaluation.{rule_key, rule_action}
-use Rattle.cluster_objects.specs.Steps.{Stage, native, kubernetes, baseline, earlier, first, decided_first, allowed_first, allowed_by_default, verdict_of}
+use Rattle.cluster_objects.specs.declared.steps.Stage.{Stage}
+use Rattle.cluster_objects.specs.declared.steps.Stage.TheVariants.{Native, Kubernetes, Baseline}
+use Rattle.cluster_objects.specs.StepsLaws.{not_before}
+use Rattle.cluster_objects.specs.Steps.{earlier, first, decided_first, allowed_first, allowed_by_default, verdict_of}
 use Rattle.watch_streams.specs.declared.net.NetRule.{NetRule}
 use Rattle.watch_streams.specs.HeldEvaluation.{net_rule_key, net_rule_action}
 use Rattle.watch_streams.specs.Projection.{net_rule}
@@ -28,14 +31,6 @@ rules_differ k l less = by_cases (nat_cmp k.tier l.tier) (nat_cmp k.priority l.p
     by_cases Equal Equal c d e = ap (λ z. is_eq (ordering_then z d)) e
     by_cases Equal Greater c d e = refl
     by_cases Greater b c d e = refl
-
-not_before : (k l : RuleKey) → is_gt (rule_order k l) ≡ true → is_gt (rule_order l k) ≡ false
-not_before k l = by_cases (rule_order k l) (rule_order l k) (rule_order_total.antisymm l k)
-  where
-    by_cases : (a b : Ordering) → b ≡ ordering_reverse a → is_gt a ≡ true → is_gt b ≡ false
-    by_cases Less b e h = cc
-    by_cases Equal b e h = cc
-    by_cases Greater b e h = ap is_gt e
 
 or_before : (k l : RuleKey) → is_eq (rule_order k l) ≡ false → is_gt (rule_order l k) ≡ not (is_gt (rule_order k l))
 or_before k l = by_cases (rule_order k l) (rule_order l k) (rule_order_total.antisymm l k)
@@ -123,7 +118,7 @@ allowed-map (Some r) = refl
 pub verdict_told : (told : Stage → List NetRule) (rules : Stage → List Rule) (iso isolated : Bool)
     → ((stage : Stage) → first net_rule_key (told stage) ≡ first net_rule_key (map net_rule (rules stage))) → iso ≡ isolated
     → verdict_of net_rule_key net_rule_action told iso ≡ verdict_of rule_key rule_action rules isolated
-verdict_told told rules iso isolated same e = (λ i. of_firsts (firsts native i) (firsts kubernetes i) (firsts baseline i) (e i)) ∙ by_cases isolated
+verdict_told told rules iso isolated same e = (λ i. of_firsts (firsts Native i) (firsts Kubernetes i) (firsts Baseline i) (e i)) ∙ by_cases isolated
   where
     firsts : (stage : Stage) → first net_rule_key (told stage) ≡ option_map net_rule (first rule_key (rules stage))
     firsts stage = same stage ∙ first-map (rules stage)
@@ -139,8 +134,8 @@ verdict_told told rules iso isolated same e = (λ i. of_firsts (firsts native i)
     told_at : Stage → Option NetRule
     told_at stage = option_map net_rule (at stage)
 
-    by_cases : (iso : Bool) → of_firsts (told_at native) (told_at kubernetes) (told_at baseline) iso ≡ verdict_of rule_key rule_action rules iso
-    by_cases true = decided-map (at native) (allowed_first net_rule_key (told_at kubernetes)) ∙ ap (decided_first rule_key rule_action (at native)) (allowed-map (at kubernetes))
+    by_cases : (iso : Bool) → of_firsts (told_at Native) (told_at Kubernetes) (told_at Baseline) iso ≡ verdict_of rule_key rule_action rules iso
+    by_cases true = decided-map (at Native) (allowed_first net_rule_key (told_at Kubernetes)) ∙ ap (decided_first rule_key rule_action (at Native)) (allowed-map (at Kubernetes))
     by_cases false =
-        decided-map (at native) (decided_first net_rule_key net_rule_action (told_at baseline) allowed_by_default)
-        ∙ ap (decided_first rule_key rule_action (at native)) (decided-map (at baseline) allowed_by_default)
+        decided-map (at Native) (decided_first net_rule_key net_rule_action (told_at Baseline) allowed_by_default)
+        ∙ ap (decided_first rule_key rule_action (at Native)) (decided-map (at Baseline) allowed_by_default)

@@ -8,18 +8,21 @@ use Rattle.std.proofs.lemmas.Cmp.{nat_list_cmp_total, tied_itself}
 use Rattle.cl_types.specs.declared.addr.Addr.{Addr}
 use Rattle.cl_types.specs.Addr.{addr_order}
 use Rattle.cl_types.specs.Ascending.{found, put}
-use Rattle.cl_types.specs.AscendingLaws.{all_put, found_put}
+use Rattle.cl_types.specs.AscendingLaws.{all_sorted, found_put}
 use Rattle.label_select.specs.Group.{Group, IsGroup}
 use Rattle.label_select.specs.Written.{group_text}
-use Rattle.cluster_objects.specs.Objects.{PodData}
+use Rattle.cluster_objects.specs.Pod.{PodData}
 use Rattle.watch_streams.specs.declared.message.StreamObject.{StreamObject}
 use Rattle.watch_streams.specs.HeldEvaluation.{held_group, group_in, some_member, held_member, is_held}
-use Rattle.watch_streams.specs.Names.{text_order, object_text, at_text, by_name}
+use Rattle.cl_types.specs.Text.{text_order}
+use Rattle.watch_streams.specs.Names.{object_text, at_text, by_name}
 use Rattle.watch_streams.specs.Net.{MemberData, ascending_members}
 use Rattle.watch_streams.specs.Projection.{group_object, groups_by_text, pod_members}
 use Rattle.watch_streams.proofs.Members.{list_any-ascending}
-use Rattle.watch_streams.proofs.MemberOrder.{text_exact}
-use Rattle.watch_streams.proofs.OneOfAll.{all_weaker, all_of_both, list_any-each, list_any-filter, list_any-map, list_any-flat_map, list_any-put}
+use Rattle.cl_types.specs.OrderLaws.{text_order_exact}
+use Rattle.cl_types.specs.ListLaws.{all_weaker}
+use Rattle.watch_streams.proofs.OneOfAll.{all_of_both, list_any-each, list_any-filter, list_any-map, list_any-flat_map}
+use Rattle.cl_types.specs.AscendingLaws.{list_any-put}
 
 -- ---- the texts of groups
 
@@ -28,8 +31,7 @@ abbrev pub GroupTextsDiffer : Type 0
 GroupTextsDiffer = (a b : Group) → IsGroup a → IsGroup b → group_text a ≡ group_text b → a ≡ b
 
 pub all_groups_by_text : (P : Group → Type 0) (gs : List Group) → AllByRecursion P gs → AllByRecursion P (groups_by_text gs)
-all_groups_by_text P [] all = tt
-all_groups_by_text P (g ∷ gs) all = all_put (λ h. text_order (group_text h) (group_text g)) P g (groups_by_text gs) all.0 (all_groups_by_text P gs all.1)
+all_groups_by_text = all_sorted group_text text_order
 
 -- the group is held, with the members that f gives it
 abbrev pub HeldAs : (Group → List MemberData) → List StreamObject → Group → Type 0
@@ -53,7 +55,7 @@ module _ (differ : GroupTextsDiffer) where
       at h = text_order (group_text h) (group_text g)
 
       one : (h : Group) → IsGroup h → at h ≡ Equal → p h ≡ p g
-      one h is e = ap p (differ h g is all.0 (text_exact (group_text h) (group_text g) e))
+      one h is e = ap p (differ h g is all.0 (text_order_exact (group_text h) (group_text g) e))
 
   module _ (f : Group → List MemberData) where
     held-put : (held : List StreamObject) (g h : Group) → IsGroup g → IsGroup h → HeldAs f held h → HeldAs f (put (at_text (group_text g)) (group_object f g) held) h
@@ -62,7 +64,7 @@ module _ (differ : GroupTextsDiffer) where
       where
         by_order : (r : Ordering) → text_order (group_text g) (group_text h) ≡ r → group_in (if is_eq r then Some (group_object f g) else found (at_text (group_text h)) held) ≡ Some (f h)
         by_order Less is = before
-        by_order Equal is = ap (λ z. Some (f z)) (differ g h is_g is_h (text_exact (group_text g) (group_text h) is))
+        by_order Equal is = ap (λ z. Some (f z)) (differ g h is_g is_h (text_order_exact (group_text g) (group_text h) is))
         by_order Greater is = before
 
     -- each of some groups is held once all are

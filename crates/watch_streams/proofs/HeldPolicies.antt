@@ -11,7 +11,7 @@ use Rattle.cl_types.specs.RuleOrder.{policy_order, policy_order_total}
 use Rattle.cl_types.specs.Written.{policy_text}
 use Rattle.cluster_objects.specs.declared.egress.EgressObj.{EgressObj}
 use Rattle.cluster_objects.specs.declared.policy.Rule.{Rule}
-use Rattle.cluster_objects.specs.Objects.{PolicyData, IsRuleOf}
+use Rattle.cluster_objects.specs.Policy.{PolicyData, IsRuleOf}
 use Rattle.cluster_objects.specs.Steps.{first}
 use Rattle.watch_streams.specs.declared.message.StreamObject.{StreamObject}
 use Rattle.watch_streams.specs.declared.message.StreamObject.TheVariants as object
@@ -23,8 +23,9 @@ use Rattle.watch_streams.specs.Net.{NetPolicyData}
 use Rattle.watch_streams.specs.Projection.{net_rule, net_policy, net_egress}
 use Rattle.watch_streams.proofs.Differences.{all_by_name}
 use Rattle.watch_streams.proofs.FirstRules.{Differ, into, first-append, into-swap, rules_differ}
-use Rattle.watch_streams.proofs.MemberOrder.{text_exact}
-use Rattle.watch_streams.proofs.OneOfAll.{all_weaker, all_of_both, all_each, all_map, all_filter, all_append, or_swap}
+use Rattle.cl_types.specs.OrderLaws.{text_order_exact}
+use Rattle.cl_types.specs.ListLaws.{all_weaker, all_filter, or_swap}
+use Rattle.watch_streams.proofs.OneOfAll.{all_of, all_of_both, all_map, all_append}
 
 -- ---- steps over a list, from its end
 
@@ -70,7 +71,7 @@ PolicyTextsDiffer =
 module _ (differ : PolicyTextsDiffer) where
   text_differs : (p r : PolicyData) → IsWholePolicy p → IsWholePolicy r → policy_order p.key r.key ≡ Less → at_text (policy_text p.key) (policy_object r) ≡ Equal → ⊥
   text_differs p r is_p is_r less e =
-      let same : r.key ≡ p.key = differ r.key p.key is_r.name is_p.name (text_exact (policy_text r.key) (policy_text p.key) e) in
+      let same : r.key ≡ p.key = differ r.key p.key is_r.name is_p.name (text_order_exact (policy_text r.key) (policy_text p.key) e) in
       let tied = tied_itself policy_order_total p.key in
       let less_itself : policy_order p.key p.key ≡ Less = subst (λ k. policy_order p.key k ≡ Less) same less in
       apart (sym less_itself ∙ tied)
@@ -98,7 +99,7 @@ module _ (differ : PolicyTextsDiffer) where
     over-objects : (ps : List PolicyData) (es : List EgressObj) → AllByRecursion IsWholePolicy ps → Ascends (λ (p : PolicyData). p.key) policy_order ps
         → over held_step a (by_name (map policy_object ps ++ map egress_object es)) ≡ over (λ p. step (net_policy p)) a ps
     over-objects [] es whole up =
-        over-idle (by_name (map egress_object es)) (all_by_name _ (map egress_object es) (all_map (λ o. (b : A) → held_step o b ≡ b) egress_object es (all_each _ (λ e b. refl) es)))
+        over-idle (by_name (map egress_object es)) (all_by_name _ (map egress_object es) (all_map (λ o. (b : A) → held_step o b ≡ b) egress_object es (all_of _ (λ e b. refl) es)))
     over-objects (p ∷ ps) es whole up =
         over-put held_step at (policy_object p) a (by_name others) (all_by_name Later others (all_append Later (map policy_object ps) (map egress_object es) policies egresses))
         ∙ ap (step (net_policy p)) (over-objects ps es whole.1 up.1)
@@ -119,7 +120,7 @@ module _ (differ : PolicyTextsDiffer) where
         policies = all_map Later policy_object ps (all_of_both IsWholePolicy (λ r. policy_order p.key r.key ≡ Less) (λ r. Later (policy_object r)) policy ps whole.1 up.0)
 
         egresses : AllByRecursion Later (map egress_object es)
-        egresses = all_map Later egress_object es (all_each (λ e. Later (egress_object e)) (λ e. record { swap = λ b. refl; same = λ t b. refl }) es)
+        egresses = all_map Later egress_object es (all_of (λ e. Later (egress_object e)) (λ e. record { swap = λ b. refl; same = λ t b. refl }) es)
 
     -- steps over the policies that are held are steps over these policies
     over-policies : (ps : List PolicyData) (es : List EgressObj) → AllByRecursion IsWholePolicy ps → Ascends (λ (p : PolicyData). p.key) policy_order ps

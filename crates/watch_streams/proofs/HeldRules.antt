@@ -5,26 +5,32 @@ use Rattle.std.specs.Option.{option_map_or}
 use Rattle.cl_types.specs.declared.addr.Addr.{Addr}
 use Rattle.cl_types.specs.declared.keys.Dir.{Dir}
 use Rattle.cl_types.specs.declared.keys.Dir.TheVariants.{Ingress, Egress}
-use Rattle.cl_types.specs.declared.traffic.PortName.{PortName}
-use Rattle.cl_types.specs.declared.traffic.Question.{Question}
-use Rattle.cl_types.specs.Addr.{addr_order}
-use Rattle.cl_types.specs.Equality.{addr_eq, dir_eq, proto_eq}
-use Rattle.cl_types.specs.Traffic.{PortRange}
-use Rattle.label_select.specs.Group.{Group, IsGroup}
+use Rattle.cl_types.specs.declared.service.PortName.{PortName}
+use Rattle.cl_types.specs.declared.question.Question.{Question}
+use Rattle.cl_types.specs.Addr.{addr_order, addr_eq}
+use Rattle.cl_types.specs.Dir.{dir_eq}
+use Rattle.cl_types.specs.Proto.{proto_eq}
+use Rattle.cl_types.specs.Service.{PortRange}
+use Rattle.label_select.specs.Group.{Group}
 use Rattle.cluster_objects.specs.declared.policy.Peer.{Peer}
 use Rattle.cluster_objects.specs.declared.policy.Peer.TheVariants as peer
 use Rattle.cluster_objects.specs.declared.policy.Rule.{Rule}
-use Rattle.cluster_objects.specs.Evaluation.{has_address, block_has, group_has_address, peer_has, peers_have, service_has, is_port, defines, peer_is_pod, peers_have_pod, name_has, services_have, applies, rule_has, pod_on}
-use Rattle.cluster_objects.specs.Groups.{counts, has}
-use Rattle.cluster_objects.specs.Kept.{AllApart}
-use Rattle.cluster_objects.specs.Objects.{PodData, PolicyData}
-use Rattle.cluster_objects.specs.State.{ClusterData}
-use Rattle.watch_streams.specs.HeldEvaluation.{HeldMaps, held_member, is_held, is_at, groups_of, resolves, is_complete, held_peers_have, destination, member_defines, held_name_has, held_services_have, held_rule_has}
-use Rattle.watch_streams.specs.Laws.{IsWholePeer, AreWholePeers}
+use Rattle.cluster_objects.specs.Pod.{has_address}
+use Rattle.cluster_objects.specs.Evaluation.{block_contains, group_contains, peer_contains, peers_contain, service_matches, is_port, defines, peer_contains_pod, peers_contain_pod, name_matches, services_match, applies, rule_matches, pod_on}
+use Rattle.cluster_objects.specs.Pod.{counts}
+use Rattle.cluster_objects.specs.Groups.{in_group}
+use Rattle.cluster_objects.specs.Cluster.{AllApart}
+use Rattle.cluster_objects.specs.Pod.{PodData}
+use Rattle.cluster_objects.specs.Policy.{PolicyData}
+use Rattle.cluster_objects.specs.Cluster.{ClusterData}
+use Rattle.watch_streams.specs.HeldEvaluation.{HeldMaps, held_member, is_held, is_at, groups_of, resolves, is_complete, held_peers_contain, destination, member_defines, held_name_matches, held_services_match, held_rule_matches}
+use Rattle.watch_streams.specs.Laws.{AreWholePeers}
 use Rattle.watch_streams.specs.Projection.{groups_by_text, peer_groups, peer_blocks, net_peers, net_rule, net_policy, members_on, group_members, all_pods, is_egress, has_names, rule_groups}
+use Rattle.watch_streams.proofs.GroupForms.{groups_are}
 use Rattle.watch_streams.proofs.HeldGroups.{GroupTextsDiffer, HeldAs, held_is_held, list_any-groups_by_text, all_groups_by_text}
 use Rattle.watch_streams.proofs.HeldMembers.{AsksOfPods, peer_member, own_any}
-use Rattle.watch_streams.proofs.OneOfAll.{all_weaker, all_flat_map, or_false, and_false, and_true, and_assoc, list_any-all, list_any-each, list_any-and, list_any-or, list_any-flat_map, list_any-swap, list_all-all}
+use Rattle.cl_types.specs.ListLaws.{all_weaker}
+use Rattle.watch_streams.proofs.OneOfAll.{or_false, and_false, and_true, and_assoc, list_any-all, list_any-each, list_any-and, list_any-or, list_any-flat_map, list_any-swap, list_all-all}
 
 -- ---- tests
 
@@ -49,33 +55,25 @@ dir_same Egress Egress e = refl
 
 -- ---- peers
 
-pub groups_are : (peers : List Peer) → AllByRecursion IsWholePeer peers → AllByRecursion IsGroup (flat_map peer_groups peers)
-groups_are peers whole = all_flat_map IsGroup peer_groups peers (all_weaker IsWholePeer (λ p. AllByRecursion IsGroup (peer_groups p)) one peers whole)
-  where
-    one : (p : Peer) → IsWholePeer p → AllByRecursion IsGroup (peer_groups p)
-    one (peer.Group g) is = (is, tt)
-    one (peer.Block b) is = tt
-    one peer.Never is = tt
-
 module _ (c : ClusterData) where
   -- the groups and the blocks of peers have the addresses that the peers have
-  peers_split : (a : Addr) (peers : List Peer) → (list_any (λ g. group_has_address c g a) (flat_map peer_groups peers) || list_any (λ b. block_has b a) (flat_map peer_blocks peers)) ≡ list_any (peer_has c a) peers
+  peers_split : (a : Addr) (peers : List Peer) → (list_any (λ g. group_contains c g a) (flat_map peer_groups peers) || list_any (λ b. block_contains b a) (flat_map peer_blocks peers)) ≡ list_any (peer_contains c a) peers
   peers_split a peers =
-      (λ i. list_any-flat_map (λ g. group_has_address c g a) peer_groups peers i || list_any-flat_map (λ b. block_has b a) peer_blocks peers i)
-      ∙ sym (list_any-or (λ p. list_any (λ g. group_has_address c g a) (peer_groups p)) (λ p. list_any (λ b. block_has b a) (peer_blocks p)) peers)
-      ∙ list_any-each _ (peer_has c a) one peers
+      (λ i. list_any-flat_map (λ g. group_contains c g a) peer_groups peers i || list_any-flat_map (λ b. block_contains b a) peer_blocks peers i)
+      ∙ sym (list_any-or (λ p. list_any (λ g. group_contains c g a) (peer_groups p)) (λ p. list_any (λ b. block_contains b a) (peer_blocks p)) peers)
+      ∙ list_any-each _ (peer_contains c a) one peers
     where
-      one : (p : Peer) → (list_any (λ g. group_has_address c g a) (peer_groups p) || list_any (λ b. block_has b a) (peer_blocks p)) ≡ peer_has c a p
-      one (peer.Group g) = or_false (group_has_address c g a || false) ∙ or_false (group_has_address c g a)
-      one (peer.Block b) = or_false (block_has b a)
+      one : (p : Peer) → (list_any (λ g. group_contains c g a) (peer_groups p) || list_any (λ b. block_contains b a) (peer_blocks p)) ≡ peer_contains c a p
+      one (peer.Group g) = or_false (group_contains c g a || false) ∙ or_false (group_contains c g a)
+      one (peer.Block b) = or_false (block_contains b a)
       one peer.Never = refl
 
   -- the groups of peers have the pods that the peers have
-  peers_are_groups : (d : PodData) (peers : List Peer) → list_any (λ g. has c g d) (flat_map peer_groups peers) ≡ list_any (peer_is_pod c d) peers
-  peers_are_groups d peers = list_any-flat_map (λ g. has c g d) peer_groups peers ∙ list_any-each (λ p. list_any (λ g. has c g d) (peer_groups p)) (peer_is_pod c d) one peers
+  peers_are_groups : (d : PodData) (peers : List Peer) → list_any (λ g. in_group c g d) (flat_map peer_groups peers) ≡ list_any (peer_contains_pod c d) peers
+  peers_are_groups d peers = list_any-flat_map (λ g. in_group c g d) peer_groups peers ∙ list_any-each (λ p. list_any (λ g. in_group c g d) (peer_groups p)) (peer_contains_pod c d) one peers
     where
-      one : (p : Peer) → list_any (λ g. has c g d) (peer_groups p) ≡ peer_is_pod c d p
-      one (peer.Group g) = or_false (has c g d)
+      one : (p : Peer) → list_any (λ g. in_group c g d) (peer_groups p) ≡ peer_contains_pod c d p
+      one (peer.Group g) = or_false (in_group c g d)
       one (peer.Block b) = refl
       one peer.Never = refl
 
@@ -136,15 +134,15 @@ module _ (differ : GroupTextsDiffer) (exact : (a b : Addr) → addr_order a b �
 
   -- ---- peers
 
-  at_member : (a : Addr) (g : Group) → HeldAs (group_members c) h.addresses g → held_member (is_at a) h.addresses g ≡ group_has_address c g a
+  at_member : (a : Addr) (g : Group) → HeldAs (group_members c) h.addresses g → held_member (is_at a) h.addresses g ≡ group_contains c g a
   at_member a g is = peer_member exact c h.addresses (is_at a) (has_address a) (λ pod. refl) g is
 
-  peers_same : (a : Addr) (r : Rule) (peers : Option (List Peer)) → AreWholePeers peers → PeersAreHeld c h r peers → held_peers_have h a (option_map net_peers peers) ≡ peers_have c a peers
+  peers_same : (a : Addr) (r : Rule) (peers : Option (List Peer)) → AreWholePeers peers → PeersAreHeld c h r peers → held_peers_contain h a (option_map net_peers peers) ≡ peers_contain c a peers
   peers_same a r None whole held = refl
   peers_same a r (Some peers) whole held =
-      ap (λ b. b || list_any (λ b. block_has b a) (flat_map peer_blocks peers))
+      ap (λ b. b || list_any (λ b. block_contains b a) (flat_map peer_blocks peers))
       (list_any-groups_by_text differ (held_member (is_at a) h.addresses) (flat_map peer_groups peers) (groups_are peers whole)
-      ∙ list_any-all (held_member (is_at a) h.addresses) (λ g. group_has_address c g a) (flat_map peer_groups peers) (all_weaker (HeldAs (group_members c) h.addresses) _ (at_member a) (flat_map peer_groups peers) held))
+      ∙ list_any-all (held_member (is_at a) h.addresses) (λ g. group_contains c g a) (flat_map peer_groups peers) (all_weaker (HeldAs (group_members c) h.addresses) _ (at_member a) (flat_map peer_groups peers) held))
       ∙ peers_split c a peers
 
   -- ---- named ports of peers
@@ -160,7 +158,7 @@ module _ (differ : GroupTextsDiffer) (exact : (a b : Addr) → addr_order a b �
 
   -- on egress a name has the ports of the members of the peers' groups
   egress_name : (p : PolicyData) (r : Rule) (q : Question) (name : PortName) (peers : Option (List Peer)) (pod : PodData) → AreWholePeers peers → PeersAreHeld c h r peers → r.key.dir ≡ Egress → has_names r.named ≡ true
-      → held_name_has h (net_policy p) (net_rule (record r { peers = peers })) (record q { dir = Egress }) name ≡ name_has c (record r { peers = peers }) pod (record q { dir = Egress }) name
+      → held_name_matches h (net_policy p) (net_rule (record r { peers = peers })) (record q { dir = Egress }) name ≡ name_matches c (record r { peers = peers }) pod (record q { dir = Egress }) name
   egress_name p r q name None pod whole held of_d of_n =
       or_false (held_member (member_defines asked name) h.addresses all_pods)
       ∙ peer_member exact c h.addresses (member_defines asked name) _ (asks_port asked name) all_pods (all_pods_held r.key.dir (has_names r.named) of_d of_n held)
@@ -171,8 +169,8 @@ module _ (differ : GroupTextsDiffer) (exact : (a b : Addr) → addr_order a b �
   egress_name p r q name (Some peers) pod whole held of_d of_n =
       list_any-groups_by_text differ (held_member (member_defines asked name) h.addresses) gs (groups_are peers whole)
       ∙ list_any-all (held_member (member_defines asked name) h.addresses) _ gs (all_weaker (HeldAs (group_members c) h.addresses) _ (peer_member exact c h.addresses (member_defines asked name) passes (asks_port asked name)) gs held)
-      ∙ list_any-swap (λ g d. has c g d && passes d) gs c.pods
-      ∙ list_any-each _ _ (λ d. list_any-and (λ g. has c g d) (passes d) gs ∙ ap (λ b. b && passes d) (peers_are_groups c d peers) ∙ and_move (has_address q.peer d) (peers_have_pod c d (Some peers)) (defines asked name d)) c.pods
+      ∙ list_any-swap (λ g d. in_group c g d && passes d) gs c.pods
+      ∙ list_any-each _ _ (λ d. list_any-and (λ g. in_group c g d) (passes d) gs ∙ ap (λ b. b && passes d) (peers_are_groups c d peers) ∙ and_move (has_address q.peer d) (peers_contain_pod c d (Some peers)) (defines asked name d)) c.pods
     where
       asked : Question
       asked = record q { dir = Egress }
@@ -195,7 +193,7 @@ module _ (differ : GroupTextsDiffer) (exact : (a b : Addr) → addr_order a b �
         by_cases (Some pod) = and_true (applies c p pod)
 
     name_same : (r : Rule) (q : Question) (d : Dir) (name : PortName) (pod : PodData) → AreWholePeers r.peers → PeersAreHeld c h r r.peers → pod_on c node q.own ≡ Some pod → r.key.dir ≡ d → applies c p pod ≡ true → has_names r.named ≡ true
-        → held_name_has h (net_policy p) (net_rule r) (record q { dir = d }) name ≡ name_has c r pod (record q { dir = d }) name
+        → held_name_matches h (net_policy p) (net_rule r) (record q { dir = d }) name ≡ name_matches c r pod (record q { dir = d }) name
     name_same r q Ingress name pod whole held own of_d of_a of_n =
         own_any exact c node apart h.applied q.own (member_defines asked name) (defines asked name) (asks_port asked name) p.applied applied
         ∙ ap (λ (o : Option PodData). option_map_or (λ x. applies c p x && defines asked name x) o false) own
@@ -206,22 +204,22 @@ module _ (differ : GroupTextsDiffer) (exact : (a b : Addr) → addr_order a b �
     name_same r q Egress name pod whole held own of_d of_a of_n = egress_name p r q name r.peers pod whole held of_d of_n
 
     services_same : (r : Rule) (q : Question) (pod : PodData) (services : Option (List PortRange)) → AreWholePeers r.peers → PeersAreHeld c h r r.peers → pod_on c node q.own ≡ Some pod → r.key.dir ≡ q.dir → applies c p pod ≡ true
-        → held_services_have h (net_policy p) (net_rule r) q services ≡ services_have c r pod q services
+        → held_services_match h (net_policy p) (net_rule r) q services ≡ services_match c r pod q services
     services_same r q pod None whole held own of_d of_a = refl
     services_same r q pod (Some services) whole held own of_d of_a =
-        ap (λ b. list_any (service_has q) services || b)
-        (named_alike (held_name_has h (net_policy p) (net_rule r) q) (name_has c r pod q) r.named (λ of_n name. name_same r q q.dir name pod whole held own of_d of_a of_n))
+        ap (λ b. list_any (service_matches q) services || b)
+        (named_alike (held_name_matches h (net_policy p) (net_rule r) q) (name_matches c r pod q) r.named (λ of_n name. name_same r q q.dir name pod whole held own of_d of_a of_n))
 
     -- the rule that is held has the question where the policy's rule has it, of the pod at its own address
-    pub rule_same : (r : Rule) (q : Question) → AreWholePeers r.peers → PeersAreHeld c h r r.peers → held_rule_has h q (net_policy p) (net_rule r) ≡ option_map_or (λ pod. rule_has c p r pod q) (pod_on c node q.own) false
+    pub rule_same : (r : Rule) (q : Question) → AreWholePeers r.peers → PeersAreHeld c h r r.peers → held_rule_matches h q (net_policy p) (net_rule r) ≡ option_map_or (λ pod. rule_matches c p r pod q) (pod_on c node q.own) false
     rule_same r q whole held = by_cases (pod_on c node q.own) refl (applies_same q)
       where
         told : Bool
         told = list_any (held_member (is_at q.own) h.applied) p.applied
 
-        by_cases : (o : Option PodData) → pod_on c node q.own ≡ o → told ≡ option_map_or (applies c p) o false → held_rule_has h q (net_policy p) (net_rule r) ≡ option_map_or (λ pod. rule_has c p r pod q) o false
+        by_cases : (o : Option PodData) → pod_on c node q.own ≡ o → told ≡ option_map_or (applies c p) o false → held_rule_matches h q (net_policy p) (net_rule r) ≡ option_map_or (λ pod. rule_matches c p r pod q) o false
         by_cases None own of_a = no_rule (is_complete h (net_policy p) (net_rule r) && dir_eq r.key.dir q.dir) told _ _ of_a
         by_cases (Some pod) own of_a =
-            same_rule (is_complete h (net_policy p) (net_rule r)) (dir_eq r.key.dir q.dir) told (held_peers_have h q.peer (option_map net_peers r.peers)) _ (applies c p pod) (peers_have c q.peer r.peers) _
+            same_rule (is_complete h (net_policy p) (net_rule r)) (dir_eq r.key.dir q.dir) told (held_peers_contain h q.peer (option_map net_peers r.peers)) _ (applies c p pod) (peers_contain c q.peer r.peers) _
             (complete p r applied held) of_a (peers_same q.peer r r.peers whole held)
             (λ of_d of_p. services_same r q pod r.services whole held own (dir_same r.key.dir q.dir of_d) of_p)

@@ -1,8 +1,7 @@
-pub mod AscendingEdits
-pub mod AscendingMaps
 pub mod Cells
 pub mod Differences
 pub mod FirstRules
+pub mod GroupForms
 pub mod HeldGroups
 pub mod HeldMembers
 pub mod HeldPolicies

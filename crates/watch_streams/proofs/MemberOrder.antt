@@ -1,27 +1,19 @@
 -- The order of members is total and exact, and so is that of texts.
-use Rattle.std.proofs.Common.{◌≡◌, ℕ, eqb, if◌then◌else◌, Ordering, refl, sym, ap, ◌∙◌}
-use Rattle.std.specs.declared.cmp.Ordering.TheVariants.{Less, Equal, Greater}
-use Rattle.std.specs.Ordering.{ordering_then, nat_cmp}
+use Rattle.std.proofs.Common.{◌≡◌, ℕ, eqb, if◌then◌else◌, refl, sym, ap, ◌∙◌}
+use Rattle.std.specs.declared.cmp.Ordering.TheVariants.{Equal}
+use Rattle.std.specs.Ordering.{nat_cmp}
 use Rattle.std.specs.Cmp.{IsTotalOrder}
 use Rattle.std.specs.Cmp.Lexicographic.{slice_cmp}
 use Rattle.std.specs.FinMap.{IsAntisymmetric, nat_cmp-IsAntisymmetric, slice_cmp-IsAntisymmetric}
 use Rattle.std.proofs.lemmas.Cmp.{on_total, then_total, nat_cmp_total, nat_list_cmp_total, lists_total}
 use Rattle.cl_types.specs.declared.addr.Addr.{Addr}
-use Rattle.cl_types.specs.declared.traffic.NamedPort.{NamedPort}
-use Rattle.cl_types.specs.declared.traffic.Proto.{Proto}
-use Rattle.cl_types.specs.declared.traffic.Proto.TheVariants.{Tcp, Udp, Sctp, Icmp}
+use Rattle.cl_types.specs.declared.service.NamedPort.{NamedPort}
+use Rattle.cl_types.specs.declared.service.Proto.{Proto}
+use Rattle.cl_types.specs.declared.service.Proto.TheVariants.{Tcp, Udp, Sctp, Icmp}
+use Rattle.cl_types.specs.OrderLaws.{both_equal, text_order_exact}
 use Rattle.cl_types.specs.Addr.{addr_order, addr_order_total}
-use Rattle.cluster_objects.specs.Objects.{port_order, proto_place}
-use Rattle.watch_streams.specs.Names.{text_order}
+use Rattle.cluster_objects.specs.Pod.{port_order, proto_place}
 use Rattle.watch_streams.specs.Net.{MemberData, member_order, numbered_port_order}
-
-both_equal : (r s : Ordering) → ordering_then r s ≡ Equal → (r ≡ Equal) × (s ≡ Equal)
-both_equal Less s e = cc
-both_equal Equal s e = (refl, e)
-both_equal Greater s e = cc
-
-pub text_exact : IsAntisymmetric text_order
-text_exact = slice_cmp-IsAntisymmetric nat_cmp-IsAntisymmetric
 
 proto_exact : (a b : Proto) → proto_place a ≡ proto_place b → a ≡ b
 proto_exact a b e = sym (back a) ∙ ap proto_at e ∙ back b
@@ -39,7 +31,7 @@ port_exact : IsAntisymmetric numbered_port_order
 port_exact a b e =
     let parts = both_equal (port_order a b) (nat_cmp a.port b.port) e in
     let names = both_equal (slice_cmp nat_cmp a.name b.name) (nat_cmp (proto_place a.proto) (proto_place b.proto)) parts.0 in
-    let name = text_exact a.name b.name names.0 in
+    let name = text_order_exact a.name b.name names.0 in
     let proto = proto_exact a.proto b.proto (nat_cmp-IsAntisymmetric (proto_place a.proto) (proto_place b.proto) names.1) in
     let port = nat_cmp-IsAntisymmetric a.port b.port parts.1 in
     (λ i. record { name = name i; proto = proto i; port = port i })

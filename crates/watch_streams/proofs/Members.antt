@@ -8,13 +8,14 @@ use Rattle.cl_types.specs.declared.addr.Addr.{Addr}
 use Rattle.cl_types.specs.Addr.{addr_order}
 use Rattle.std.specs.Ordering.{is_eq, match_ordering}
 use Rattle.cl_types.specs.Ascending.{Ascends, found}
-use Rattle.cl_types.specs.AscendingLaws.{ascends_put}
+use Rattle.cl_types.specs.AscendingLaws.{ascends_sorted}
 use Rattle.watch_streams.specs.Difference.{has_member, members_without, patched}
 use Rattle.watch_streams.specs.Net.{MemberData, member_order, ascending_members}
-use Rattle.watch_streams.proofs.AscendingEdits.{ascends_filter}
+use Rattle.cl_types.specs.AscendingLaws.{ascends_filter}
 use Rattle.watch_streams.proofs.MemberOrder.{member_order_total, member_exact}
-use Rattle.watch_streams.proofs.OneOfAll.{all_each, and_false, and_true, list_any-and, list_any-each, list_any-filter, list_any-put}
-use Rattle.watch_streams.proofs.AscendingMaps.{equal_maps, none_behind, none_is_not}
+use Rattle.cl_types.specs.SortedSetLaws.{list_any-sorted_set}
+use Rattle.watch_streams.proofs.OneOfAll.{and_false, and_true, list_any-and, list_any-each, list_any-filter}
+use Rattle.cl_types.specs.AscendingLaws.{equal_maps, none_behind}
 
 -- the member alone, where it is there
 abbrev only : Bool → MemberData → Option MemberData
@@ -22,7 +23,7 @@ only true m = Some m
 only false m = None
 
 not_only : (b : Bool) (m : MemberData) → only b m ≡ None → b ≡ false
-not_only true m e = absurd (none_is_not m (sym e))
+not_only true m e = cc
 not_only false m e = refl
 
 -- the members that were had, the added ones and not the removed ones are the new ones
@@ -39,8 +40,7 @@ set_same false true a b = absurd (true≢false a)
 set_same false false a b = refl
 
 pub ascends_members : (ms : List MemberData) → Ascends (λ m. m) member_order (ascending_members ms)
-ascends_members [] = tt
-ascends_members (m ∷ ms) = ascends_put (λ n. n) member_order_total m (ascending_members ms) (ascends_members ms)
+ascends_members = ascends_sorted (λ m. m) member_order_total
 
 module _ (addr_exact : (a b : Addr) → addr_order a b ≡ Equal → a ≡ b) where
   exact : (a b : MemberData) → member_order a b ≡ Equal → a ≡ b
@@ -48,10 +48,7 @@ module _ (addr_exact : (a b : Addr) → addr_order a b ≡ Equal → a ≡ b) wh
 
   -- some member passes in ascending order where some does in any order
   pub list_any-ascending : (p : MemberData → Bool) (ms : List MemberData) → list_any p (ascending_members ms) ≡ list_any p ms
-  list_any-ascending p [] = refl
-  list_any-ascending p (m ∷ ms) =
-      list_any-put (λ n. member_order n m) p m (ascending_members ms) (all_each (λ n. member_order n m ≡ Equal → p n ≡ p m) (λ n e. ap p (exact n m e)) (ascending_members ms))
-      ∙ ap (λ b. p m || b) (list_any-ascending p ms)
+  list_any-ascending = list_any-sorted_set exact
 
   has_filter : (p : MemberData → Bool) (xs : List MemberData) (m : MemberData) → has_member (filter p xs) m ≡ (has_member xs m && p m)
   has_filter p xs m =

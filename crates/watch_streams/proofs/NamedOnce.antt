@@ -9,7 +9,8 @@ use Rattle.watch_streams.specs.declared.message.StreamName.{StreamName}
 use Rattle.watch_streams.specs.declared.message.StreamObject.{StreamObject}
 use Rattle.watch_streams.specs.Difference.{changed}
 use Rattle.watch_streams.specs.Laws.{DifferencesNameOnce, MapsNameOnce}
-use Rattle.watch_streams.specs.Names.{AreDistinct, AscendByName, at_text, by_name, changed_name, name_of, name_text, object_text, text_order}
+use Rattle.cl_types.specs.Text.{text_order}
+use Rattle.watch_streams.specs.Names.{AreDistinct, AscendByName, at_text, by_name, changed_name, name_of, name_text, object_text}
 use Rattle.watch_streams.proofs.Cells.{IsAt}
 use Rattle.watch_streams.proofs.Differences.{ascends_by_name, changed_at, found_text}
 

@@ -1,40 +1,26 @@
 -- What holds of all elements of a list, and what one of them passes.
 use Rattle.std.proofs.Common.{◌≡◌, List, [], ◌∷◌, ◌++◌, map, filter, flat_map, cond, Bool, true, false, ◌||◌, ◌&&◌, Some, find, refl, sym, ap, ◌∙◌}
 use Rattle.std.specs.List.{AllByRecursion, list_any, list_all}
-use Rattle.std.specs.Ordering.{match_ordering}
-use Rattle.std.specs.declared.cmp.Ordering.{Ordering}
-use Rattle.std.specs.declared.cmp.Ordering.TheVariants.{Less, Equal, Greater}
 use Rattle.std.proofs.lemmas.List.{map-append}
 use Rattle.std.proofs.lemmas.List.Folds.{list_any-append}
-use Rattle.cl_types.specs.Ascending.{put}
+use Rattle.cl_types.specs.ListLaws.{or_swap}
 
 -- ---- what holds of all
 
-pub all_weaker : {T : Type 0} (P Q : T → Type 0) → ((x : T) → P x → Q x) → (xs : List T) → AllByRecursion P xs → AllByRecursion Q xs
-all_weaker P Q f [] all = tt
-all_weaker P Q f (x ∷ xs) all = (f x all.0, all_weaker P Q f xs all.1)
+-- what holds of everything holds of all
+pub all_of : {T : Type 0} (P : T → Type 0) → ((x : T) → P x) → (xs : List T) → AllByRecursion P xs
+all_of P f [] = tt
+all_of P f (x ∷ xs) = (f x, all_of P f xs)
 
 pub all_of_both : {T : Type 0} (P Q R : T → Type 0) → ((x : T) → P x → Q x → R x) → (xs : List T) → AllByRecursion P xs → AllByRecursion Q xs → AllByRecursion R xs
 all_of_both P Q R f [] ps qs = tt
 all_of_both P Q R f (x ∷ xs) ps qs = (f x ps.0 qs.0, all_of_both P Q R f xs ps.1 qs.1)
-
-pub all_each : {T : Type 0} (P : T → Type 0) → ((x : T) → P x) → (xs : List T) → AllByRecursion P xs
-all_each P f [] = tt
-all_each P f (x ∷ xs) = (f x, all_each P f xs)
 
 pub all_map : {A B : Type 0} (P : B → Type 0) (f : A → B) (xs : List A) → AllByRecursion (λ x. P (f x)) xs → AllByRecursion P (map f xs)
 all_map P f [] all = tt
 all_map P f (x ∷ xs) all = (all.0, all_map P f xs all.1)
 
 module _ {T : Type 0} (P : T → Type 0) where
-  pub all_filter : (k : T → Bool) (xs : List T) → AllByRecursion P xs → AllByRecursion P (filter k xs)
-  all_filter k [] all = tt
-  all_filter k (x ∷ xs) all = by_cases (k x) (all_filter k xs all.1)
-    where
-      by_cases : (b : Bool) → AllByRecursion P (filter k xs) → AllByRecursion P (cond b (x ∷ filter k xs) (filter k xs))
-      by_cases true rest = (all.0, rest)
-      by_cases false rest = rest
-
   pub all_append : (xs ys : List T) → AllByRecursion P xs → AllByRecursion P ys → AllByRecursion P (xs ++ ys)
   all_append [] ys front back = back
   all_append (x ∷ xs) ys front back = (front.0, all_append xs ys front.1 back)
@@ -75,15 +61,6 @@ module _ {T : Type 0} (P : T → Type 0) where
 or_assoc : (a b c : Bool) → ((a || b) || c) ≡ (a || (b || c))
 or_assoc true b c = refl
 or_assoc false b c = refl
-
-pub or_swap : (a b c : Bool) → (a || (b || c)) ≡ (b || (a || c))
-or_swap true true c = refl
-or_swap true false c = refl
-or_swap false b c = refl
-
-or_twice : (a c : Bool) → (a || (a || c)) ≡ (a || c)
-or_twice true c = refl
-or_twice false c = refl
 
 pub or_false : (a : Bool) → (a || false) ≡ a
 or_false true = refl
@@ -149,16 +126,6 @@ module _ {T : Type 0} where
   pub list_all-all : (p : T → Bool) (xs : List T) → AllByRecursion (λ x. p x ≡ true) xs → list_all p xs ≡ true
   list_all-all p [] all = refl
   list_all-all p (x ∷ xs) all = ap (λ b. b && list_all p xs) all.0 ∙ list_all-all p xs all.1
-
-  -- one passes once x is put where x passes or one passed, if what x takes the place of passes as x does
-  pub list_any-put : (at : T → Ordering) (p : T → Bool) (x : T) (xs : List T) → AllByRecursion (λ y. at y ≡ Equal → p y ≡ p x) xs → list_any p (put at x xs) ≡ (p x || list_any p xs)
-  list_any-put at p x [] same = refl
-  list_any-put at p x (y ∷ ys) same = by_cases (at y) refl (list_any-put at p x ys same.1)
-    where
-      by_cases : (r : Ordering) → at y ≡ r → list_any p (put at x ys) ≡ (p x || list_any p ys) → list_any p (match_ordering r (y ∷ put at x ys) (x ∷ ys) (x ∷ y ∷ ys)) ≡ (p x || (p y || list_any p ys))
-      by_cases Less is later = ap (λ b. p y || b) later ∙ or_swap (p y) (p x) (list_any p ys)
-      by_cases Equal is later = sym (ap (λ z. p x || (z || list_any p ys)) (same.0 is) ∙ or_twice (p x) (list_any p ys))
-      by_cases Greater is later = refl
 
   -- what was found passes its test, and no other that none passes
   pub found-passes : (p : T → Bool) (xs : List T) (x : T) → find p xs ≡ Some x → p x ≡ true

@@ -1,61 +1,41 @@
 -- The verdict of what an agent holds whose three streams stand at one cluster is the policies' own.
-use Rattle.std.proofs.Common.{◌≡◌, ℕ, List, [], ◌∷◌, ◌++◌, map, filter, flat_map, cond, Ordering, Less, Equal, Bool, true, false, ◌&&◌, if◌then◌else◌, Option, Some, None, refl, sym, ap, ap₂, ◌∙◌}
+use Rattle.std.proofs.Common.{◌≡◌, ℕ, List, [], ◌++◌, map, filter, flat_map, cond, Equal, Bool, true, false, ◌&&◌, Option, Some, None, refl, sym, ap, ap₂, ◌∙◌}
 use Rattle.std.specs.List.{AllByRecursion, list_any}
 use Rattle.std.specs.Option.{option_map_or}
 use Rattle.cl_types.specs.declared.addr.Addr.{Addr}
 use Rattle.cl_types.specs.declared.keys.Dir.{Dir}
 use Rattle.cl_types.specs.declared.keys.Dir.TheVariants.{Ingress, Egress}
-use Rattle.cl_types.specs.declared.traffic.Question.{Question}
+use Rattle.cl_types.specs.declared.question.Question.{Question}
 use Rattle.cl_types.specs.Addr.{addr_order}
 use Rattle.cl_types.specs.Ascending.{Ascends}
-use Rattle.cl_types.specs.Equality.{text_eq, dir_eq}
+use Rattle.cl_types.specs.Text.{text_eq}
+use Rattle.cl_types.specs.Dir.{dir_eq}
 use Rattle.cl_types.specs.RuleOrder.{policy_order}
 use Rattle.label_select.specs.Group.{Group, IsGroup}
 use Rattle.cluster_objects.specs.declared.egress.EgressObj.{EgressObj}
-use Rattle.cluster_objects.specs.declared.policy.Peer.{Peer}
 use Rattle.cluster_objects.specs.declared.policy.Rule.{Rule}
-use Rattle.cluster_objects.specs.Evaluation.{has_address, peers_have, services_have, applies, rule_has, rule_key, rule_action, side_of, pod_on}
-use Rattle.cluster_objects.specs.Groups.{counts}
-use Rattle.cluster_objects.specs.Objects.{PodData, PolicyData, isolates}
-use Rattle.cluster_objects.specs.State.{ClusterData}
-use Rattle.cluster_objects.specs.Steps.{Stage, first, in_stage, is_kube, allowed_by_default, verdict_of}
+use Rattle.cluster_objects.specs.Pod.{has_address}
+use Rattle.cluster_objects.specs.Evaluation.{peers_contain, services_match, applies, rule_matches, rule_key, rule_action, side_of, pod_on}
+use Rattle.cluster_objects.specs.Pod.{counts}
+use Rattle.cluster_objects.specs.Pod.{PodData}
+use Rattle.cluster_objects.specs.Policy.{PolicyData, isolates}
+use Rattle.cluster_objects.specs.Cluster.{ClusterData}
+use Rattle.cluster_objects.specs.declared.steps.Stage.{Stage}
+use Rattle.cluster_objects.specs.Steps.{first, in_stage, is_kube, allowed_by_default, verdict_of}
 use Rattle.watch_streams.specs.declared.net.NetRule.{NetRule}
-use Rattle.watch_streams.specs.HeldEvaluation.{HeldMaps, held_member, is_at, held_rule_has, held_rules_with, held_isolated, net_rule_key}
+use Rattle.watch_streams.specs.HeldEvaluation.{HeldMaps, held_member, is_at, held_rule_matches, held_rules_with, held_isolated, net_rule_key}
 use Rattle.watch_streams.specs.Laws.{AreWholePeers, IsWholePolicy, IsWholeCluster, held_of, OneRevisionIsThePoliciesVerdict}
 use Rattle.watch_streams.specs.Net.{NetPolicyData, net_isolates}
-use Rattle.watch_streams.specs.Projection.{net_rule, net_policy, members_on, group_members, is_on, policy_is_on, egress_is_on, policies_on, egresses_on, all_pods, is_egress, has_names, rule_groups, policy_groups}
+use Rattle.watch_streams.specs.Projection.{net_rule, net_policy, members_on, group_members, is_on, policy_is_on, egress_is_on, policies_on, egresses_on, rule_groups, policy_groups}
 use Rattle.watch_streams.proofs.FirstRules.{verdict_told}
 use Rattle.watch_streams.proofs.HeldGroups.{GroupTextsDiffer, HeldAs, held_all}
 use Rattle.watch_streams.proofs.HeldPolicies.{PolicyTextsDiffer, any_held, first_held}
-use Rattle.watch_streams.proofs.HeldRules.{groups_are, no_rule, PeersAreHeld, AppliedAreHeld, applies_same, rule_same}
-use Rattle.watch_streams.proofs.OneOfAll.{all_weaker, all_of_both, all_map, all_filter, all_append, all_front, all_flat_map, all_parts, all_kept, and_false, list_any-all, list_any-each, list_any-none, list_any-filter, found-passes, found-fails, filter-map, filter-all, filter-none, flat_map-none, flat_map-kept, map-flat_map}
-
-ascends_filter : {T K : Type 0} (key : T → K) (cmp : K → K → Ordering) (k : T → Bool) (xs : List T) → Ascends key cmp xs → Ascends key cmp (filter k xs)
-ascends_filter key cmp k [] up = tt
-ascends_filter key cmp k (x ∷ xs) up = by_cases (k x) (ascends_filter key cmp k xs up.1)
-  where
-    by_cases : (b : Bool) → Ascends key cmp (filter k xs) → Ascends key cmp (cond b (x ∷ filter k xs) (filter k xs))
-    by_cases true rest = (all_filter (λ y. cmp (key x) (key y) ≡ Less) k xs up.0, rest)
-    by_cases false rest = rest
-
--- ---- groups
-
-all_pods_are : IsGroup all_pods
-all_pods_are =
-    record { scope_form = record { need_forms = tt; needs_ascend = tt; values_ascend = tt }; pods_form = record { need_forms = tt; needs_ascend = tt; values_ascend = tt } }
-
-rule_groups_are : (r : Rule) (peers : Option (List Peer)) → AreWholePeers peers → AllByRecursion IsGroup (rule_groups r peers)
-rule_groups_are r None whole = by_cases (is_egress r.key.dir && has_names r.named)
-  where
-    by_cases : (b : Bool) → AllByRecursion IsGroup (if b then all_pods ∷ [] else [])
-    by_cases true = (all_pods_are, tt)
-    by_cases false = tt
-rule_groups_are r (Some peers) whole = groups_are peers whole
-
-policy_groups_are : (p : PolicyData) → IsWholePolicy p → AllByRecursion IsGroup (policy_groups p)
-policy_groups_are p whole =
-    all_flat_map IsGroup (λ (r : Rule). rule_groups r r.peers) p.rules
-    (all_weaker (λ (r : Rule). AreWholePeers r.peers) (λ (r : Rule). AllByRecursion IsGroup (rule_groups r r.peers)) (λ r is. rule_groups_are r r.peers is) p.rules whole.peers)
+use Rattle.watch_streams.proofs.GroupForms.{policy_forms}
+use Rattle.watch_streams.proofs.HeldRules.{no_rule, PeersAreHeld, AppliedAreHeld, applies_same, rule_same}
+use Rattle.cl_types.specs.RuleOrder.{policy_order_total}
+use Rattle.cl_types.specs.AscendingLaws.{ascends_filter}
+use Rattle.cl_types.specs.ListLaws.{all_weaker, all_filter}
+use Rattle.watch_streams.proofs.OneOfAll.{all_of_both, all_map, all_append, all_front, all_flat_map, all_parts, all_kept, and_false, list_any-all, list_any-each, list_any-none, list_any-filter, found-passes, found-fails, filter-map, filter-all, filter-none, flat_map-none, flat_map-kept, map-flat_map}
 
 isolates_same : (p : PolicyData) (d : Dir) → net_isolates (net_policy p) d ≡ isolates p d
 isolates_same p Ingress = refl
@@ -73,7 +53,7 @@ own_applies c o p = option_map_or (applies c p) o false
 
 module _ (c : ClusterData) (q : Question) (o : Option PodData) where
   abbrev asked : Stage → PolicyData → Rule → Bool
-  asked stage p r = in_stage stage p.key.kind r.key && option_map_or (λ pod. rule_has c p r pod q) o false
+  asked stage p r = in_stage stage p.key.kind r.key && option_map_or (λ pod. rule_matches c p r pod q) o false
 
   abbrev rules_at : Stage → List Rule
   rules_at stage = flat_map (λ p. filter (asked stage p) p.rules) c.policies
@@ -85,9 +65,9 @@ module _ (c : ClusterData) (q : Question) (o : Option PodData) where
 unasked : (c : ClusterData) (q : Question) (o : Option PodData) (stage : Stage) (p : PolicyData) → own_applies c o p ≡ false → (r : Rule) → asked c q o stage p r ≡ false
 unasked c q o stage p none r = ap (λ b. in_stage stage p.key.kind r.key && b) (by_cases o none) ∙ and_false (in_stage stage p.key.kind r.key)
   where
-    by_cases : (o : Option PodData) → own_applies c o p ≡ false → option_map_or (λ pod. rule_has c p r pod q) o false ≡ false
+    by_cases : (o : Option PodData) → own_applies c o p ≡ false → option_map_or (λ pod. rule_matches c p r pod q) o false ≡ false
     by_cases None none = refl
-    by_cases (Some pod) none = no_rule (dir_eq r.key.dir q.dir) (applies c p pod) (peers_have c q.peer r.peers) (services_have c r pod q r.services) none
+    by_cases (Some pod) none = no_rule (dir_eq r.key.dir q.dir) (applies c p pod) (peers_contain c q.peer r.peers) (services_match c r pod q r.services) none
 
 -- this is the policies' verdict: where there is no pod everything is allowed
 side_is : (c : ClusterData) (q : Question) (o : Option PodData) → verdict_of rule_key rule_action (rules_at c q o) (isolated_at c q o) ≡ option_map_or (λ pod. side_of c pod q) o allowed_by_default
@@ -135,7 +115,7 @@ module _ (groups_differ : GroupTextsDiffer) (policies_differ : PolicyTextsDiffer
   peers_on : AllByRecursion (λ p. policy_is_on c node p ≡ true → AllByRecursion (HeldAs (group_members c) held.addresses) (policy_groups p)) c.policies
   peers_on =
       all_kept (HeldAs (group_members c) held.addresses) policy_groups (policy_is_on c node) c.policies
-      (held_all groups_differ (group_members c) (flat_map policy_groups (policies_on c node)) (all_flat_map IsGroup policy_groups (policies_on c node) (all_weaker IsWholePolicy _ policy_groups_are (policies_on c node) whole_on)))
+      (held_all groups_differ (group_members c) (flat_map policy_groups (policies_on c node)) (all_flat_map IsGroup policy_groups (policies_on c node) (all_weaker IsWholePolicy _ policy_forms (policies_on c node) whole_on)))
 
   all_on : AllByRecursion (λ p. policy_is_on c node p ≡ true → IsOnNode c node p) c.policies
   all_on = all_of_both IsWholePolicy Both (λ p. policy_is_on c node p ≡ true → IsOnNode c node p) known c.policies whole.policies (all_of_both _ _ Both (λ p applied peers. (applied, peers)) c.policies applied_on peers_on)
@@ -154,7 +134,7 @@ module _ (groups_differ : GroupTextsDiffer) (policies_differ : PolicyTextsDiffer
   own = pod_on c node q.own
 
   abbrev told : Stage → PolicyData → NetRule → Bool
-  told stage p r = in_stage stage p.key.kind r.key && held_rule_has held q (net_policy p) r
+  told stage p r = in_stage stage p.key.kind r.key && held_rule_matches held q (net_policy p) r
 
   abbrev told_isolates : NetPolicyData → Bool
   told_isolates p = (is_kube p.key.kind && net_isolates p q.dir) && list_any (held_member (is_at q.own) held.applied) p.applied
@@ -194,11 +174,11 @@ module _ (groups_differ : GroupTextsDiffer) (policies_differ : PolicyTextsDiffer
   -- ---- what is asked of all policies
 
   ascend_on : Ascends (λ (p : PolicyData). p.key) policy_order (policies_on c node)
-  ascend_on = ascends_filter (λ (p : PolicyData). p.key) policy_order (policy_is_on c node) c.policies whole.cluster.policies_ascend
+  ascend_on = ascends_filter (λ (p : PolicyData). p.key) policy_order_total (policy_is_on c node) c.policies whole.cluster.policies_ascend
 
   first_same : (stage : Stage) → first net_rule_key (held_rules_with held q stage) ≡ first net_rule_key (map net_rule (rules_at c q own stage))
   first_same stage =
-      first_held policies_differ (policies_on c node) (egresses_on c node) whole_on ascend_on (λ p r. in_stage stage p.key.kind r.key && held_rule_has held q p r)
+      first_held policies_differ (policies_on c node) (egresses_on c node) whole_on ascend_on (λ p r. in_stage stage p.key.kind r.key && held_rule_matches held q p r)
       ∙ ap (first net_rule_key)
       (flat_map-kept (λ p. filter (told stage p) (map net_rule p.rules)) (λ p. map net_rule (filter (asked c q own stage p) p.rules)) (policy_is_on c node) c.policies (all_weaker _ _ (rules_of stage) c.policies all_on)
       ∙ sym (map-flat_map net_rule (λ p. filter (asked c q own stage p) p.rules) c.policies))

@@ -1,63 +1,32 @@
 -- What belongs on a stream is a map of it, and a map taken as a snapshot is that map.
-use Rattle.std.proofs.Common.{ℕ, ◌≡◌, List, [], ◌∷◌, ◌++◌, Bool, true, false, ◌&&◌, Option, Some, None, filter, map, if◌then◌else◌, refl, ap, ◌∙◌}
-use Rattle.cluster_objects.specs.State.{ClusterData}
+use Rattle.std.proofs.Common.{ℕ, ◌≡◌, List, ◌++◌, true, ◌&&◌, filter, map, refl, ap, ◌∙◌}
+use Rattle.cluster_objects.specs.Cluster.{ClusterData}
 use Rattle.std.specs.List.{AllByRecursion, flat_map}
-use Rattle.cl_types.specs.declared.traffic.Stream.{Stream}
-use Rattle.cl_types.specs.declared.traffic.Stream.TheVariants.{Policies, Addresses, Applied}
+use Rattle.cl_types.specs.declared.stream.Stream.{Stream}
+use Rattle.cl_types.specs.declared.stream.Stream.TheVariants.{Policies, Addresses, Applied}
 use Rattle.cl_types.specs.Ascending.{Ascends}
-use Rattle.label_select.specs.Canonical.{IsSelection}
 use Rattle.label_select.specs.Group.{Group, IsGroup}
 use Rattle.cluster_objects.specs.declared.egress.EgressObj.{EgressObj}
-use Rattle.cluster_objects.specs.declared.policy.Peer.{Peer}
-use Rattle.cluster_objects.specs.declared.policy.Peer.TheVariants as peer
-use Rattle.cluster_objects.specs.declared.policy.Rule.{Rule}
-use Rattle.cluster_objects.specs.Groups.{has}
-use Rattle.cluster_objects.specs.Objects.{PodData, PolicyData}
+use Rattle.cluster_objects.specs.Groups.{in_group}
+use Rattle.cluster_objects.specs.Pod.{PodData}
+use Rattle.cluster_objects.specs.Policy.{PolicyData}
 use Rattle.watch_streams.specs.declared.message.StreamObject.{StreamObject}
 use Rattle.watch_streams.specs.declared.message.StreamObject.TheVariants as object
 use Rattle.watch_streams.specs.Difference.{belongs}
-use Rattle.watch_streams.specs.Laws.{HasAscendingMembers, HasGroupForm, IsMap, IsWholePeer, AreWholePeers, IsWholePolicy, SnapshotsAreTheMap, ProjectionsAreMaps, IsWholeCluster}
+use Rattle.watch_streams.specs.Laws.{HasAscendingMembers, HasGroupForm, IsMap, IsWholePolicy, SnapshotsAreTheMap, ProjectionsAreMaps, IsWholeCluster}
 use Rattle.watch_streams.specs.Names.{by_name}
 use Rattle.watch_streams.specs.Net.{MemberData, member_order}
-use Rattle.watch_streams.specs.Projection.{all_pods, egress_is_on, egresses_on, group_members, group_object, is_egress, has_names, members_on, net_egress, net_policy, on_addresses, on_applied, on_policies, peer_groups, policies_on, policy_groups, policy_is_on, pod_members, is_on, rule_groups}
+use Rattle.watch_streams.specs.Projection.{egress_is_on, egresses_on, group_members, group_object, members_on, net_egress, net_policy, on_addresses, on_applied, on_policies, policies_on, policy_groups, policy_is_on, pod_members, is_on}
+use Rattle.watch_streams.proofs.GroupForms.{policy_forms}
 use Rattle.watch_streams.proofs.Differences.{all_by_name, ascends_by_name, map_of_itself}
 use Rattle.watch_streams.proofs.Members.{ascends_members}
-use Rattle.watch_streams.proofs.OneOfAll.{all_append, all_each, all_filter, all_flat_map, all_map, all_weaker}
+use Rattle.watch_streams.proofs.OneOfAll.{all_of, all_append, all_flat_map, all_map}
+use Rattle.cl_types.specs.ListLaws.{filter_all, all_filter, all_weaker}
 
 -- ---- snapshots
 
-filter_all : {T : Type 0} (p : T → Bool) (xs : List T) → AllByRecursion (λ x. p x ≡ true) xs → filter p xs ≡ xs
-filter_all p [] h = refl
-filter_all p (x ∷ xs) h = ap (λ b. if b then x ∷ filter p xs else filter p xs) h.0 ∙ ap (λ z. x ∷ z) (filter_all p xs h.1)
-
 pub snapshots_are : SnapshotsAreTheMap
 snapshots_are s objects m = ap by_name (filter_all (belongs s) objects m.belong) ∙ map_of_itself objects m.ascends
-
--- ---- groups have their forms
-
-all_pods_form : IsGroup all_pods
-all_pods_form = record { scope_form = empty; pods_form = empty }
-  where
-    empty : IsSelection (record { needs = [] })
-    empty = record { need_forms = tt; needs_ascend = tt; values_ascend = tt }
-
-peer_forms : (p : Peer) → IsWholePeer p → AllByRecursion IsGroup (peer_groups p)
-peer_forms (peer.Group g) h = (h, tt)
-peer_forms (peer.Block b) h = tt
-peer_forms peer.Never h = tt
-
-rule_forms : (r : Rule) (peers : Option (List Peer)) → AreWholePeers peers → AllByRecursion IsGroup (rule_groups r peers)
-rule_forms r (Some peers) h = all_flat_map IsGroup peer_groups peers (all_weaker IsWholePeer (λ p. AllByRecursion IsGroup (peer_groups p)) peer_forms peers h)
-rule_forms r None h = by_test (is_egress r.key.dir && has_names r.named)
-  where
-    by_test : (b : Bool) → AllByRecursion IsGroup (if b then all_pods ∷ [] else [])
-    by_test true = (all_pods_form, tt)
-    by_test false = tt
-
-policy_forms : (p : PolicyData) → IsWholePolicy p → AllByRecursion IsGroup (policy_groups p)
-policy_forms p h =
-    all_flat_map IsGroup (λ (r : Rule). rule_groups r r.peers) p.rules
-    (all_weaker (λ (r : Rule). AreWholePeers r.peers) (λ (r : Rule). AllByRecursion IsGroup (rule_groups r r.peers)) (λ r w. rule_forms r r.peers w) p.rules h.peers)
 
 -- ---- the streams
 
@@ -79,10 +48,10 @@ is_map s os h = record {
 }
 
 policies_are_parts : (ps : List PolicyData) → AllByRecursion (IsPart Policies) (map (λ p. object.Policy (net_policy p)) ps)
-policies_are_parts ps = all_map (IsPart Policies) (λ p. object.Policy (net_policy p)) ps (all_each (λ p. IsPart Policies (object.Policy (net_policy p))) (λ p. (refl, tt, tt)) ps)
+policies_are_parts ps = all_map (IsPart Policies) (λ p. object.Policy (net_policy p)) ps (all_of (λ p. IsPart Policies (object.Policy (net_policy p))) (λ p. (refl, tt, tt)) ps)
 
 egresses_are_parts : (es : List EgressObj) → AllByRecursion (IsPart Policies) (map (λ e. object.Egress (net_egress e)) es)
-egresses_are_parts es = all_map (IsPart Policies) (λ e. object.Egress (net_egress e)) es (all_each (λ e. IsPart Policies (object.Egress (net_egress e))) (λ e. (refl, tt, tt)) es)
+egresses_are_parts es = all_map (IsPart Policies) (λ e. object.Egress (net_egress e)) es (all_of (λ e. IsPart Policies (object.Egress (net_egress e))) (λ e. (refl, tt, tt)) es)
 
 whole_policies_on : (c : ClusterData) (node : List ℕ) → IsWholeCluster c → AllByRecursion IsWholePolicy (policies_on c node)
 whole_policies_on c node h = all_filter IsWholePolicy (policy_is_on c node) c.policies h.policies
@@ -99,11 +68,11 @@ projections_are c Policies node h =
     (policies_are_parts (policies_on c node)) (egresses_are_parts (egresses_on c node)))
 projections_are c Addresses node h =
     is_map Addresses (on_addresses c node)
-    (group_parts Addresses (λ g ms. refl) (group_members c) (λ g. ascends_members (flat_map pod_members (filter (has c g) c.pods))) (flat_map policy_groups (policies_on c node))
+    (group_parts Addresses (λ g ms. refl) (group_members c) (λ g. ascends_members (flat_map pod_members (filter (in_group c g) c.pods))) (flat_map policy_groups (policies_on c node))
     (groups_of_all policy_groups policy_forms (policies_on c node) (whole_policies_on c node h)))
 projections_are c Applied node h =
     is_map Applied (on_applied c node)
-    (group_parts Applied (λ g ms. refl) (members_on c node) (λ g. ascends_members (flat_map pod_members (filter (λ (p : PodData). is_on node p && has c g p) c.pods)))
+    (group_parts Applied (λ g ms. refl) (members_on c node) (λ g. ascends_members (flat_map pod_members (filter (λ (p : PodData). is_on node p && in_group c g p) c.pods)))
     (flat_map (λ (p : PolicyData). p.applied) (policies_on c node) ++ map (λ (e : EgressObj). e.applied) (egresses_on c node))
     (all_append IsGroup (flat_map (λ (p : PolicyData). p.applied) (policies_on c node)) (map (λ (e : EgressObj). e.applied) (egresses_on c node))
     (groups_of_all (λ (p : PolicyData). p.applied) (λ p w. w.applied) (policies_on c node) (whole_policies_on c node h))

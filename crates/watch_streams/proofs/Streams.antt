@@ -1,8 +1,8 @@
 -- The messages of a stream lead from the map at one revision to that at a later one.
 use Rattle.std.proofs.Common.{◌≡◌, ℕ, zero, suc, ◌≤◌, List, [], ◌∷◌, get_or, refl, sym, ap, ◌∙◌, arith}
 use Rattle.std.specs.List.{AllByRecursion}
-use Rattle.cl_types.specs.declared.traffic.Stream.{Stream}
-use Rattle.cluster_objects.specs.State.{no_objects}
+use Rattle.cl_types.specs.declared.stream.Stream.{Stream}
+use Rattle.cluster_objects.specs.Cluster.{no_objects}
 use Rattle.watch_streams.specs.declared.message.Msg.{Msg}
 use Rattle.watch_streams.specs.declared.message.Msg.TheVariants.{Delta, Snapshot}
 use Rattle.watch_streams.specs.declared.message.StreamObject.{StreamObject}

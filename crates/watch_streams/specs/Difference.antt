@@ -3,8 +3,8 @@
 use Rattle.std.specs.Prelude.{ℕ, List, [], ◌∷◌, ◌++◌, Bool, true, false, not, filter, map, Option, Some, None, if◌then◌else◌}
 use Rattle.std.specs.List.{flat_map, list_any}
 use Rattle.std.specs.Ordering.{is_eq}
-use Rattle.cl_types.specs.declared.traffic.Stream.{Stream}
-use Rattle.cl_types.specs.declared.traffic.Stream.TheVariants.{Policies, Addresses, Applied}
+use Rattle.cl_types.specs.declared.stream.Stream.{Stream}
+use Rattle.cl_types.specs.declared.stream.Stream.TheVariants.{Policies, Addresses, Applied}
 use Rattle.cl_types.specs.Ascending.{found, put}
 use Rattle.cl_types.specs.Equality.{is_same}
 use Rattle.label_select.specs.Group.{Group}

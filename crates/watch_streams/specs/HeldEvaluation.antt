@@ -6,17 +6,20 @@ use Rattle.cl_types.specs.declared.addr.Addr.{Addr}
 use Rattle.cl_types.specs.declared.keys.Dir.{Dir}
 use Rattle.cl_types.specs.declared.keys.Dir.TheVariants.{Ingress, Egress}
 use Rattle.cl_types.specs.declared.keys.RuleKey.{RuleKey}
-use Rattle.cl_types.specs.declared.traffic.Action.{Action}
-use Rattle.cl_types.specs.declared.traffic.PortName.{PortName}
-use Rattle.cl_types.specs.declared.traffic.Question.{Question}
+use Rattle.cl_types.specs.declared.verdict.Action.{Action}
+use Rattle.cl_types.specs.declared.service.PortName.{PortName}
+use Rattle.cl_types.specs.declared.question.Question.{Question}
 use Rattle.cl_types.specs.Ascending.{found}
-use Rattle.cl_types.specs.Equality.{addr_eq, dir_eq, proto_eq}
+use Rattle.cl_types.specs.Addr.{addr_eq}
+use Rattle.cl_types.specs.Dir.{dir_eq}
+use Rattle.cl_types.specs.Proto.{proto_eq}
 use Rattle.cl_types.specs.Judgement.{Judgement}
-use Rattle.cl_types.specs.Traffic.{PortRange}
+use Rattle.cl_types.specs.Service.{PortRange}
 use Rattle.label_select.specs.Group.{Group}
 use Rattle.label_select.specs.Written.{group_text}
-use Rattle.cluster_objects.specs.Evaluation.{block_has, service_has, is_port}
-use Rattle.cluster_objects.specs.Steps.{Stage, in_stage, is_kube, verdict_of}
+use Rattle.cluster_objects.specs.Evaluation.{block_contains, service_matches, is_port}
+use Rattle.cluster_objects.specs.declared.steps.Stage.{Stage}
+use Rattle.cluster_objects.specs.Steps.{in_stage, is_kube, verdict_of}
 use Rattle.watch_streams.specs.declared.message.StreamObject.{StreamObject}
 use Rattle.watch_streams.specs.declared.message.StreamObject.TheVariants as object
 use Rattle.watch_streams.specs.declared.net.NetPeers.{NetPeers}
@@ -85,9 +88,9 @@ is_complete h p r =
     list_all (is_held h.addresses) (groups_of r.peers) && list_all (is_held h.applied) p.applied
     && (not (has_names r.named) || resolves h p r)
 
-abbrev pub held_peers_have : HeldMaps → Addr → Option NetPeers → Bool
-held_peers_have h a None = true
-held_peers_have h a (Some peers) = list_any (held_member (is_at a) h.addresses) peers.groups || list_any (λ b. block_has b a) peers.blocks
+abbrev pub held_peers_contain : HeldMaps → Addr → Option NetPeers → Bool
+held_peers_contain h a None = true
+held_peers_contain h a (Some peers) = list_any (held_member (is_at a) h.addresses) peers.groups || list_any (λ b. block_contains b a) peers.blocks
 
 -- the destination of the traffic of a question
 abbrev pub destination : Question → Dir → Addr
@@ -98,18 +101,18 @@ destination q Egress = q.peer
 abbrev pub member_defines : Question → PortName → MemberData → Bool
 member_defines q name m = is_at (destination q q.dir) m && proto_eq name.proto q.proto && list_any (is_port q name) m.ports
 
-abbrev pub held_name_has : HeldMaps → NetPolicyData → NetRule → Question → PortName → Bool
-held_name_has h p r q name = list_any (held_member (member_defines q name) (resolving_map h q.dir)) (resolving_groups p r q.dir)
+abbrev pub held_name_matches : HeldMaps → NetPolicyData → NetRule → Question → PortName → Bool
+held_name_matches h p r q name = list_any (held_member (member_defines q name) (resolving_map h q.dir)) (resolving_groups p r q.dir)
 
-abbrev pub held_services_have : HeldMaps → NetPolicyData → NetRule → Question → Option (List PortRange) → Bool
-held_services_have h p r q None = true
-held_services_have h p r q (Some services) = list_any (service_has q) services || list_any (held_name_has h p r q) r.named
+abbrev pub held_services_match : HeldMaps → NetPolicyData → NetRule → Question → Option (List PortRange) → Bool
+held_services_match h p r q None = true
+held_services_match h p r q (Some services) = list_any (service_matches q) services || list_any (held_name_matches h p r q) r.named
 
--- a rule of a held policy has the question
-abbrev pub held_rule_has : HeldMaps → Question → NetPolicyData → NetRule → Bool
-held_rule_has h q p r =
+-- a rule of a held policy matches the question
+abbrev pub held_rule_matches : HeldMaps → Question → NetPolicyData → NetRule → Bool
+held_rule_matches h q p r =
     is_complete h p r && dir_eq r.key.dir q.dir && list_any (held_member (is_at q.own) h.applied) p.applied
-    && held_peers_have h q.peer r.peers && held_services_have h p r q r.services
+    && held_peers_contain h q.peer r.peers && held_services_match h p r q r.services
 
 -- ---- the verdict
 
@@ -127,16 +130,16 @@ net_rule_key r = r.key
 abbrev pub net_rule_action : NetRule → Action
 net_rule_action r = r.action
 
--- the rules of a stage that have the question
+-- the rules of a stage that match the question
 abbrev pub held_rules_with : HeldMaps → Question → Stage → List NetRule
 held_rules_with h q stage =
-    flat_map (λ p. filter (λ r. in_stage stage p.key.kind r.key && held_rule_has h q p r) p.rules) (held_policies h)
+    flat_map (λ p. filter (λ r. in_stage stage p.key.kind r.key && held_rule_matches h q p r) p.rules) (held_policies h)
 
 -- a held Kubernetes policy with the direction applies to the question's own address
 abbrev pub held_isolated : HeldMaps → Question → Bool
 held_isolated h q =
     list_any (λ p. is_kube p.key.kind && net_isolates p q.dir && list_any (held_member (is_at q.own) h.applied) p.applied) (held_policies h)
 
--- the three steps, over the complete rules that have the question
+-- the three steps, over the complete rules that match the question
 abbrev pub held_side : HeldMaps → Question → Judgement
 held_side h q = verdict_of net_rule_key net_rule_action (held_rules_with h q) (held_isolated h q)

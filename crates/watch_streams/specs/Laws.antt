@@ -1,9 +1,9 @@
 -- What holds of all clusters (this project's own).
 use Rattle.std.specs.Prelude.{◌≡◌, ℕ, ◌≤◌, List, Option, Some, None, Bool, true, map}
 use Rattle.std.specs.List.{AllByRecursion}
-use Rattle.cl_types.specs.declared.traffic.Question.{Question}
-use Rattle.cl_types.specs.declared.traffic.Stream.{Stream}
-use Rattle.cl_types.specs.declared.traffic.Stream.TheVariants.{Policies, Addresses, Applied}
+use Rattle.cl_types.specs.declared.question.Question.{Question}
+use Rattle.cl_types.specs.declared.stream.Stream.{Stream}
+use Rattle.cl_types.specs.declared.stream.Stream.TheVariants.{Policies, Addresses, Applied}
 use Rattle.cl_types.specs.Ascending.{Ascends}
 use Rattle.cl_types.specs.PolicyName.{IsPolicyName}
 use Rattle.label_select.specs.Group.{IsGroup}
@@ -12,9 +12,9 @@ use Rattle.cluster_objects.specs.declared.policy.Peer.{Peer}
 use Rattle.cluster_objects.specs.declared.policy.Peer.TheVariants as peer
 use Rattle.cluster_objects.specs.declared.policy.Rule.{Rule}
 use Rattle.cluster_objects.specs.Evaluation.{side}
-use Rattle.cluster_objects.specs.Kept.{IsCluster}
-use Rattle.cluster_objects.specs.Objects.{PolicyData, IsPolicy}
-use Rattle.cluster_objects.specs.State.{ClusterData}
+use Rattle.cluster_objects.specs.Cluster.{IsCluster}
+use Rattle.cluster_objects.specs.Policy.{PolicyData, IsPolicy}
+use Rattle.cluster_objects.specs.Cluster.{ClusterData}
 use Rattle.watch_streams.specs.declared.message.Msg.{Msg}
 use Rattle.watch_streams.specs.declared.message.StreamObject.{StreamObject}
 use Rattle.watch_streams.specs.declared.message.StreamObject.TheVariants as object

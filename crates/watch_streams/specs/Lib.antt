@@ -1,9 +1,9 @@
-pub mod Causes
 pub mod Difference
 pub mod HeldEvaluation
 pub mod Laws
 pub mod Names
 pub mod Net
+pub mod Ports
 pub mod Projection
-pub mod Queue
+pub mod QueuePlaces
 pub mod Stream

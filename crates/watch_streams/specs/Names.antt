@@ -3,9 +3,8 @@
 use Rattle.std.specs.Prelude.{◌≢◌, ℕ, List, [], ◌∷◌, ◌++◌, codes}
 use Rattle.std.specs.List.{AllByRecursion}
 use Rattle.std.specs.declared.cmp.Ordering.{Ordering}
-use Rattle.std.specs.Ordering.{nat_cmp}
-use Rattle.std.specs.Cmp.Lexicographic.{slice_cmp}
-use Rattle.cl_types.specs.Ascending.{Ascends, put}
+use Rattle.cl_types.specs.Ascending.{Ascends, sorted_by}
+use Rattle.cl_types.specs.Text.{text_order}
 use Rattle.cl_types.specs.Written.{policy_text}
 use Rattle.label_select.specs.Written.{group_text}
 use Rattle.watch_streams.specs.declared.message.StreamChange.{StreamChange}
@@ -33,17 +32,12 @@ name_text (name.Group group) = group_text group
 abbrev pub object_text : StreamObject → List ℕ
 object_text o = name_text (name_of o)
 
--- the byte order of texts
-abbrev pub text_order : List ℕ → List ℕ → Ordering
-text_order = slice_cmp nat_cmp
-
 abbrev pub at_text : List ℕ → StreamObject → Ordering
 at_text text o = text_order (object_text o) text
 
 -- the objects in the order of their names' texts, the first of each name
 abbrev pub by_name : List StreamObject → List StreamObject
-by_name [] = []
-by_name (o ∷ rest) = put (at_text (object_text o)) o (by_name rest)
+by_name = sorted_by object_text text_order
 
 -- objects in the order of their names' texts, none of one name
 abbrev pub AscendByName : List StreamObject → Type 0

@@ -1,6 +1,6 @@
 -- What agents are told of policies, Egresses and groups, as plain data (Antrea's controlplane objects, in
 -- which groups stand in place of selectors).
-use Rattle.std.specs.Prelude.{◌≡◌, ◌≢◌, ℕ, List, [], ◌∷◌, length, Bool, true}
+use Rattle.std.specs.Prelude.{◌≡◌, ◌≢◌, ℕ, List, [], length, Bool, true}
 use Rattle.std.specs.List.{AllByRecursion}
 use Rattle.std.specs.declared.cmp.Ordering.{Ordering}
 use Rattle.std.specs.Ordering.{ordering_then, nat_cmp}
@@ -9,14 +9,14 @@ use Rattle.cl_types.specs.declared.addr.Addr.{Addr}
 use Rattle.cl_types.specs.declared.keys.Dir.{Dir}
 use Rattle.cl_types.specs.declared.keys.Dir.TheVariants.{Ingress, Egress}
 use Rattle.cl_types.specs.declared.keys.PolicyKind.TheVariants.{Kube}
-use Rattle.cl_types.specs.declared.traffic.Action.TheVariants.{Allow, Pass}
-use Rattle.cl_types.specs.declared.traffic.NamedPort.{NamedPort}
+use Rattle.cl_types.specs.declared.verdict.Action.TheVariants.{Allow, Pass}
+use Rattle.cl_types.specs.declared.service.NamedPort.{NamedPort}
 use Rattle.cl_types.specs.Addr.{addr_order}
-use Rattle.cl_types.specs.Ascending.{Ascends, put}
+use Rattle.cl_types.specs.Ascending.{Ascends, sorted_set}
 use Rattle.cl_types.specs.PolicyName.{PolicyName}
 use Rattle.cl_types.specs.RuleOrder.{rule_order}
 use Rattle.label_select.specs.Group.{Group}
-use Rattle.cluster_objects.specs.Objects.{port_order}
+use Rattle.cluster_objects.specs.Pod.{port_order}
 use Rattle.watch_streams.specs.declared.net.NetRule.{NetRule}
 
 -- ---- policies
@@ -78,5 +78,4 @@ member_order a b = ordering_then (addr_order a.address b.address) (slice_cmp num
 
 -- members in ascending order, none twice
 abbrev pub ascending_members : List MemberData → List MemberData
-ascending_members [] = []
-ascending_members (m ∷ rest) = put (λ n. member_order n m) m (ascending_members rest)
+ascending_members = sorted_set member_order

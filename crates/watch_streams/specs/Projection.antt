@@ -4,11 +4,11 @@ use Rattle.std.specs.Prelude.{ℕ, List, [], ◌∷◌, ◌++◌, Bool, true, fa
 use Rattle.std.specs.List.{list_any, flat_map}
 use Rattle.cl_types.specs.declared.keys.Dir.{Dir}
 use Rattle.cl_types.specs.declared.keys.Dir.TheVariants.{Egress, Ingress}
-use Rattle.cl_types.specs.declared.traffic.PortName.{PortName}
-use Rattle.cl_types.specs.declared.traffic.Stream.{Stream}
-use Rattle.cl_types.specs.declared.traffic.Stream.TheVariants.{Policies, Addresses, Applied}
-use Rattle.cl_types.specs.Ascending.{put}
-use Rattle.cl_types.specs.Equality.{text_eq}
+use Rattle.cl_types.specs.declared.service.PortName.{PortName}
+use Rattle.cl_types.specs.declared.stream.Stream.{Stream}
+use Rattle.cl_types.specs.declared.stream.Stream.TheVariants.{Policies, Addresses, Applied}
+use Rattle.cl_types.specs.Ascending.{sorted_by}
+use Rattle.cl_types.specs.Text.{text_eq}
 use Rattle.label_select.specs.declared.group.Scope.TheVariants.{Namespaces}
 use Rattle.label_select.specs.Group.{Group}
 use Rattle.label_select.specs.Written.{group_text}
@@ -18,22 +18,24 @@ use Rattle.cluster_objects.specs.declared.policy.Peer.{Peer}
 use Rattle.cluster_objects.specs.declared.policy.Peer.TheVariants as peer
 use Rattle.cluster_objects.specs.declared.policy.Rule.{Rule}
 use Rattle.cluster_objects.specs.Evaluation.{applies}
-use Rattle.cluster_objects.specs.Groups.{has}
-use Rattle.cluster_objects.specs.Objects.{NodeData, PodData, PolicyData}
-use Rattle.cluster_objects.specs.State.{ClusterData}
+use Rattle.cluster_objects.specs.Groups.{in_group}
+use Rattle.cluster_objects.specs.Node.{NodeData}
+use Rattle.cluster_objects.specs.Pod.{PodData}
+use Rattle.cluster_objects.specs.Policy.{PolicyData}
+use Rattle.cluster_objects.specs.Cluster.{ClusterData}
 use Rattle.watch_streams.specs.declared.message.StreamObject.{StreamObject}
 use Rattle.watch_streams.specs.declared.message.StreamObject.TheVariants as object
 use Rattle.watch_streams.specs.declared.net.NetPeers.{NetPeers}
 use Rattle.watch_streams.specs.declared.net.NetRule.{NetRule}
-use Rattle.watch_streams.specs.Names.{text_order, by_name}
+use Rattle.cl_types.specs.Text.{text_order}
+use Rattle.watch_streams.specs.Names.{by_name}
 use Rattle.watch_streams.specs.Net.{NetPolicyData, NetEgressData, MemberData, ascending_members}
 
 -- ---- policies with groups in place of selectors
 
 -- groups in the order of their texts, none twice
 abbrev pub groups_by_text : List Group → List Group
-groups_by_text [] = []
-groups_by_text (g ∷ rest) = put (λ h. text_order (group_text h) (group_text g)) g (groups_by_text rest)
+groups_by_text = sorted_by group_text text_order
 
 abbrev pub peer_groups : Peer → List Group
 peer_groups (peer.Group g) = g ∷ []
@@ -64,13 +66,13 @@ abbrev pub pod_members : PodData → List MemberData
 pod_members p = map (λ a. record { address = a; ports = p.ports }) p.addresses
 
 abbrev pub group_members : ClusterData → Group → List MemberData
-group_members c g = ascending_members (flat_map pod_members (filter (has c g) c.pods))
+group_members c g = ascending_members (flat_map pod_members (filter (in_group c g) c.pods))
 
 abbrev pub is_on : List ℕ → PodData → Bool
 is_on node p = text_eq p.node node
 
 abbrev pub members_on : ClusterData → List ℕ → Group → List MemberData
-members_on c node g = ascending_members (flat_map pod_members (filter (λ p. is_on node p && has c g p) c.pods))
+members_on c node g = ascending_members (flat_map pod_members (filter (λ p. is_on node p && in_group c g p) c.pods))
 
 -- ---- what concerns a node
 
@@ -84,7 +86,7 @@ egress_counts c e = list_any (λ (n : NodeData). text_eq n.name e.node) c.nodes
 
 -- the Egress counts, and selects a counting pod on the node or leaves by it
 abbrev pub egress_is_on : ClusterData → List ℕ → EgressObj → Bool
-egress_is_on c node e = egress_counts c e && (text_eq e.node node || list_any (λ p. is_on node p && has c e.applied p) c.pods)
+egress_is_on c node e = egress_counts c e && (text_eq e.node node || list_any (λ p. is_on node p && in_group c e.applied p) c.pods)
 
 abbrev pub policies_on : ClusterData → List ℕ → List PolicyData
 policies_on c node = filter (policy_is_on c node) c.policies
@@ -104,7 +106,7 @@ abbrev pub has_names : List PortName → Bool
 has_names [] = false
 has_names (name ∷ names) = true
 
--- A rule's peers by groups. An Egress rule without peers that names ports has all pods.
+-- A rule's peers by groups. An Egress rule without peers that names ports is for all pods.
 abbrev pub rule_groups : Rule → Option (List Peer) → List Group
 rule_groups r (Some peers) = flat_map peer_groups peers
 rule_groups r None = if is_egress r.key.dir && has_names r.named then all_pods ∷ [] else []

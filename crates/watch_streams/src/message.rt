@@ -1,3 +1,5 @@
+ghost use Rattle.std.proofs.Common.{rules};
+ghost use Rattle.std.proofs.lemmas.Grind.{common_steps};
 ghost use Rattle.std.specs.Prelude.{◌≡◌, IfOk, IsTrue, ◌↔◌};
 ghost use Rattle.watch_streams.specs.declared.message.StreamObject.TheVariants as object;
 ghost use Rattle.watch_streams.specs.declared.message.StreamChange.TheVariants as change;
@@ -9,7 +11,7 @@ use std::marker::Model;
 
 /// What stands on a stream under a name: a policy or an Egress on Policies, a group with members on
 /// Addresses and Applied.
-#[derive(Debug, Drop)]
+#[derive(Clone, Debug, Drop)]
 pub enum StreamObject {
     Policy(NetPolicy),
     Egress(NetEgress),
@@ -20,22 +22,7 @@ pub enum StreamObject {
 }
 
 impl Copies for StreamObject {
-    fn copy(&self) -> Result<StreamObject, NoMemory> {
-        match self {
-            StreamObject::Policy(policy) => Ok(StreamObject::Policy(policy.copy()?)),
-            StreamObject::Egress(egress) => Ok(StreamObject::Egress(egress.copy()?)),
-            StreamObject::Group { group, members } => copy_group(group, members),
-        }
-    }
-}
-
-fn copy_group(group: &GroupKey, members: &List<HeldMember>) -> Result<StreamObject, NoMemory>
-    ensures { IfOk result (λ copy. copy ≡ object.Group group.now members.now) }
-{
-    Ok(StreamObject::Group {
-        group: group.copy()?,
-        members: members.copy()?,
-    })
+    ghost exact = { λ x y h. Prim.search (rules, common_steps) };
 }
 
 impl Same for StreamObject {
@@ -56,7 +43,7 @@ impl Same for StreamObject {
 }
 
 /// The name under which an object stands on its stream.
-#[derive(Debug, Drop)]
+#[derive(Clone, Debug, Drop)]
 pub enum StreamName {
     Policy(PolicyKey),
     Egress(Text),
@@ -64,17 +51,11 @@ pub enum StreamName {
 }
 
 impl Copies for StreamName {
-    fn copy(&self) -> Result<StreamName, NoMemory> {
-        match self {
-            StreamName::Policy(key) => Ok(StreamName::Policy(key.copy()?)),
-            StreamName::Egress(name) => Ok(StreamName::Egress(name.copy()?)),
-            StreamName::Group(group) => Ok(StreamName::Group(group.copy()?)),
-        }
-    }
+    ghost exact = { λ x y h. Prim.search (rules, common_steps) };
 }
 
 /// What changes under a name. A patch is of a group that was and is there: `added` and `removed` ascend.
-#[derive(Debug, Drop)]
+#[derive(Clone, Debug, Drop)]
 pub enum StreamChange {
     Put(StreamObject),
     Patch {
@@ -86,35 +67,11 @@ pub enum StreamChange {
 }
 
 impl Copies for StreamChange {
-    fn copy(&self) -> Result<StreamChange, NoMemory> {
-        match self {
-            StreamChange::Put(object) => Ok(StreamChange::Put(object.copy()?)),
-            StreamChange::Patch {
-                group,
-                added,
-                removed,
-            } => copy_patch(group, added, removed),
-            StreamChange::Remove(name) => Ok(StreamChange::Remove(name.copy()?)),
-        }
-    }
-}
-
-fn copy_patch(
-    group: &GroupKey,
-    added: &List<HeldMember>,
-    removed: &List<HeldMember>,
-) -> Result<StreamChange, NoMemory>
-    ensures { IfOk result (λ copy. copy ≡ change.Patch group.now added.now removed.now) }
-{
-    Ok(StreamChange::Patch {
-        group: group.copy()?,
-        added: added.copy()?,
-        removed: removed.copy()?,
-    })
+    ghost exact = { λ x y h. Prim.search (rules, common_steps) };
 }
 
 /// Changes under different names.
-#[derive(Debug, Drop)]
+#[derive(Clone, Debug, Drop)]
 pub struct Changes {
     items: List<StreamChange>,
 }
@@ -151,15 +108,11 @@ impl Changes {
 }
 
 impl Copies for Changes {
-    fn copy(&self) -> Result<Changes, NoMemory> {
-        Ok(Changes {
-            items: self.items.copy()?,
-        })
-    }
+    ghost exact = { λ x y h. Prim.search (rules, common_steps) };
 }
 
 /// Objects under different names.
-#[derive(Debug, Drop)]
+#[derive(Clone, Debug, Drop)]
 pub struct Objects {
     items: List<StreamObject>,
 }
@@ -196,25 +149,16 @@ impl Objects {
 }
 
 impl Copies for Objects {
-    fn copy(&self) -> Result<Objects, NoMemory> {
-        Ok(Objects {
-            items: self.items.copy()?,
-        })
-    }
+    ghost exact = { λ x y h. Prim.search (rules, common_steps) };
 }
 
 /// What a stream's agent is told: the changes that a revision makes, or all that belongs on the stream at it.
-#[derive(Debug, Drop)]
+#[derive(Clone, Debug, Drop)]
 pub enum Msg {
     Delta(Rev, Changes),
     Snapshot(Rev, Objects),
 }
 
 impl Copies for Msg {
-    fn copy(&self) -> Result<Msg, NoMemory> {
-        match self {
-            Msg::Delta(rev, changes) => Ok(Msg::Delta(*rev, changes.copy()?)),
-            Msg::Snapshot(rev, objects) => Ok(Msg::Snapshot(*rev, objects.copy()?)),
-        }
-    }
+    ghost exact = { λ x y h. Prim.search (rules, common_steps) };
 }

@@ -1,3 +1,5 @@
+ghost use Rattle.std.proofs.Common.{rules};
+ghost use Rattle.std.proofs.lemmas.Grind.{common_steps};
 ghost use Rattle.std.specs.Prelude.{◌≡◌, IfOk, IsTrue, ◌↔◌};
 
 use cl_types::{
@@ -10,19 +12,14 @@ use std::marker::Model;
 
 /// The peers of a rule: the members of its groups, by ascending text without repeats, and the addresses of
 /// its blocks, in the policy's order.
-#[derive(Debug, Drop)]
+#[derive(Clone, Debug, Drop)]
 pub struct NetPeers {
     pub groups: List<GroupKey>,
     pub blocks: List<Block>,
 }
 
 impl Copies for NetPeers {
-    fn copy(&self) -> Result<NetPeers, NoMemory> {
-        Ok(NetPeers {
-            groups: self.groups.copy()?,
-            blocks: self.blocks.copy()?,
-        })
-    }
+    ghost exact = { λ x y h. Prim.search (rules, common_steps) };
 }
 
 impl Same for NetPeers {
@@ -31,8 +28,8 @@ impl Same for NetPeers {
     }
 }
 
-/// A rule as agents are told it. Without `peers` it has every peer, and without `services` all traffic.
-#[derive(Debug, Drop)]
+/// A rule as agents are told it. Without `peers` it is for every peer, and without `services` it matches all traffic.
+#[derive(Clone, Debug, Drop)]
 pub struct NetRule {
     pub key: RuleKey,
     pub action: Action,
@@ -42,15 +39,7 @@ pub struct NetRule {
 }
 
 impl Copies for NetRule {
-    fn copy(&self) -> Result<NetRule, NoMemory> {
-        Ok(NetRule {
-            key: self.key.copy()?,
-            action: self.action,
-            peers: self.peers.copy()?,
-            services: self.services.copy()?,
-            named: self.named.copy()?,
-        })
-    }
+    ghost exact = { λ x y h. Prim.search (rules, common_steps) };
 }
 
 impl Same for NetRule {
@@ -64,7 +53,7 @@ impl Same for NetRule {
 }
 
 /// A policy as agents are told it, with groups in place of selectors. Its rules stand in the rule order.
-#[derive(Debug, Drop)]
+#[derive(Clone, Debug, Drop)]
 pub struct NetPolicy {
     pub key: PolicyKey,
     pub applied: List<GroupKey>,
@@ -84,15 +73,7 @@ impl Model for NetPolicy {
 }
 
 impl Copies for NetPolicy {
-    fn copy(&self) -> Result<NetPolicy, NoMemory> {
-        Ok(NetPolicy {
-            key: self.key.copy()?,
-            applied: self.applied.copy()?,
-            isolates_in: self.isolates_in,
-            isolates_out: self.isolates_out,
-            rules: self.rules.copy()?,
-        })
-    }
+    ghost exact = { λ x y h. Prim.search (rules, common_steps) };
 }
 
 impl Same for NetPolicy {
@@ -107,7 +88,7 @@ impl Same for NetPolicy {
 
 /// An Egress as agents are told it: traffic of the group's pods out of the cluster leaves with `address` by
 /// `node`.
-#[derive(Debug, Drop)]
+#[derive(Clone, Debug, Drop)]
 pub struct NetEgress {
     pub name: Text,
     pub address: Addr,
@@ -124,14 +105,7 @@ impl Model for NetEgress {
 }
 
 impl Copies for NetEgress {
-    fn copy(&self) -> Result<NetEgress, NoMemory> {
-        Ok(NetEgress {
-            name: self.name.copy()?,
-            address: self.address,
-            node: self.node.copy()?,
-            applied: self.applied.copy()?,
-        })
-    }
+    ghost exact = { λ x y h. Prim.search (rules, common_steps) };
 }
 
 impl Same for NetEgress {
@@ -144,7 +118,7 @@ impl Same for NetEgress {
 }
 
 /// A member of a group: an address, and the ports that its pod names, by name and protocol without a repeat.
-#[derive(Debug, Drop)]
+#[derive(Clone, Debug, Drop)]
 pub struct HeldMember {
     pub address: Addr,
     pub ports: List<NamedPort>,
@@ -152,7 +126,7 @@ pub struct HeldMember {
 
 impl Model for HeldMember {
     ghost use Rattle.cl_types.specs.Ascending.{Ascends};
-    ghost use Rattle.cluster_objects.specs.Objects.{port_order};
+    ghost use Rattle.cluster_objects.specs.Pod.{port_order};
     ghost use Rattle.watch_streams.specs.Net.{MemberData};
 
     ghost Value = { MemberData };
@@ -163,12 +137,7 @@ impl Model for HeldMember {
 }
 
 impl Copies for HeldMember {
-    fn copy(&self) -> Result<HeldMember, NoMemory> {
-        Ok(HeldMember {
-            address: self.address,
-            ports: self.ports.copy()?,
-        })
-    }
+    ghost exact = { λ x y h. Prim.search (rules, common_steps) };
 }
 
 impl Same for HeldMember {

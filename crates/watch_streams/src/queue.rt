@@ -1,5 +1,4 @@
-ghost use Rattle.std.specs.Prelude.{◌≡◌, ◌≤◌, ◌↔◌, [], ◌∷◌, Some, None, IfOk, IfSome, refl};
-ghost use Rattle.std.specs.VecDeque.{deque_len, deque_capacity};
+ghost use Rattle.std.specs.Prelude.{◌≡◌, ◌≤◌, IfOk, refl};
 ghost use Rattle.std.proofs.Common.{◌∙◌};
 
 use crate::message::Msg;
@@ -7,24 +6,37 @@ use crate::port::Port;
 use cl_types::NoMemory;
 use std::alloc::Global;
 use std::collections::VecDeque;
+use std::marker::Model;
 
-/// A port that keeps its messages until they are taken, at most so many at once.
+/// A port that keeps its messages until they are taken, at most so many at once. The places of all of them
+/// are there from the start.
 #[derive(Debug, Drop)]
 pub struct QueuePort {
     queue: VecDeque<Msg>,
     ring: u32,
     backs: u64,
-    ghost reserved: { ring ≤ deque_capacity queue },
-    ghost at_most: { deque_len queue ≤ ring },
+}
+
+impl Model for QueuePort {
+    ghost use Rattle.std.specs.Prelude.{◌≤◌};
+    ghost use Rattle.std.specs.VecDeque.{deque_capacity};
+    ghost use Rattle.watch_streams.specs.Ports.{QueueData};
+    ghost use Rattle.watch_streams.specs.QueuePlaces.{HasPlaces};
+
+    ghost Value = { QueueData };
+
+    ghost view = { λ q. record { ring = q.ring; messages = q.queue.items; backs = q.backs } };
+
+    ghost invariant = { λ q. HasPlaces q.queue.items (deque_capacity q.queue) q.ring };
 }
 
 impl QueuePort {
+    ghost use Rattle.watch_streams.specs.Ports.{empty_queue, IsTaken};
+
     /// A port for this many messages, with all places reserved.
     pub fn new(alloc: Global, ring: u32) -> Result<QueuePort, NoMemory>
         requires { (1 ≤ ring) × (ring ≤ 4096) }
-        ensures sent { IfOk result (λ port. ⟦<QueuePort as Port>⟧.sent port ≡ []) }
-        ensures room { IfOk result (λ port. ⟦<QueuePort as Port>⟧.room port ≡ Some ring) }
-        ensures backs { IfOk result (λ port. ⟦<QueuePort as Port>⟧.backs port ≡ 0) }
+        ensures { IfOk result (λ port. port ≡ empty_queue ring) }
     {
         Ok(QueuePort {
             queue: VecDeque::with_capacity(alloc, ring as usize)?,
@@ -33,25 +45,18 @@ impl QueuePort {
         })
     }
 
-    /// Takes the oldest message. It takes no memory.
+    /// Takes the oldest message. It does not allocate.
     pub fn take(&mut self) -> Option<Msg>
-        ensures none { result ≡ None ↔ (⟦<QueuePort as Port>⟧.sent self.old ≡ []) }
-        ensures first { IfSome result (λ m. ⟦<QueuePort as Port>⟧.sent self.old ≡ m ∷ ⟦<QueuePort as Port>⟧.sent self.new) }
-        ensures same { ⟦<QueuePort as Port>⟧.same self.old self.new }
-        ensures backs { ⟦<QueuePort as Port>⟧.backs self.new ≡ ⟦<QueuePort as Port>⟧.backs self.old }
+        ensures { IsTaken self.old result self.new }
     {
         self.queue.pop_front()
     }
 }
 
 impl Port for QueuePort {
-    ghost use Rattle.watch_streams.specs.Queue.{queued, times_back, room_of, HasSameRing};
+    ghost use Rattle.watch_streams.specs.Ports.{queue_state, HasSameRing};
 
-    ghost sent = { queued };
-
-    ghost backs = { times_back };
-
-    ghost room = { room_of };
+    ghost state = { queue_state };
 
     ghost same = { HasSameRing };
 

@@ -2,7 +2,7 @@ use crate::addr::Addr;
 use crate::blocks::{blocks_of_range, blocks_without};
 use crate::list::List;
 use crate::prefix::Prefix;
-use crate::traffic::Masked;
+use crate::service::Masked;
 use std::test::Fail;
 
 fn masked(value: u16, mask: u16) -> Masked {

@@ -6,7 +6,7 @@ use crate::keys::{Dir, PodKey, PolicyKey, PolicyKind, RuleKey};
 use crate::memory::NoMemory;
 use crate::prefix::Prefix;
 use crate::text::Text;
-use crate::traffic::{Cause, Judged, Verdict};
+use crate::verdict::{Cause, Judged, Verdict};
 use crate::writing::{write_addr, write_judged, write_pod, write_prefix};
 use std::alloc::Global;
 use std::test::Fail;

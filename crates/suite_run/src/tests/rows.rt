@@ -2,43 +2,49 @@ use crate::tests::{NONE, replayed};
 use std::alloc::{AllocError, Global};
 
 const N1: &[u8] =
-    b"{\"type\":\"ADDED\",\"object\":{\"apiVersion\":\"v1\",\"kind\":\"Node\",\"metadata\":{\"name\":\"n1\"},\"spec\":{\"podCIDR\":\"10.10.1.0/24\"}}}\n";
+    br#"{"type":"ADDED","object":{"apiVersion":"v1","kind":"Node","metadata":{"name":"n1"},"spec":{"podCIDR":"10.10.1.0/24"}}}"#;
+
+const N2: &[u8] =
+    br#"{"type":"ADDED","object":{"apiVersion":"v1","kind":"Node","metadata":{"name":"n2"},"spec":{"podCIDR":"10.10.2.0/24"}}}"#;
 
 const N3: &[u8] =
-    b"{\"type\":\"ADDED\",\"object\":{\"apiVersion\":\"v1\",\"kind\":\"Node\",\"metadata\":{\"name\":\"n3\"},\"spec\":{\"podCIDR\":\"10.10.3.0/24\"}}}\n";
+    br#"{"type":"ADDED","object":{"apiVersion":"v1","kind":"Node","metadata":{"name":"n3"},"spec":{"podCIDR":"10.10.3.0/24"}}}"#;
 
 const N3_TOO_SHORT: &[u8] =
-    b"{\"apiVersion\":\"v1\",\"kind\":\"Node\",\"metadata\":{\"name\":\"n3\"},\"spec\":{\"podCIDR\":\"10.0.0.0/7\"}}\n";
+    br#"{"apiVersion":"v1","kind":"Node","metadata":{"name":"n3"},"spec":{"podCIDR":"10.0.0.0/7"}}"#;
 
 pub(crate) const WEB: &[u8] =
-    b"{\"apiVersion\":\"v1\",\"kind\":\"Pod\",\"metadata\":{\"namespace\":\"default\",\"name\":\"web\",\"labels\":{\"app\":\"web\"}},\"spec\":{\"nodeName\":\"n1\"},\"status\":{\"phase\":\"Running\",\"podIP\":\"10.10.1.5\"}}\n";
+    br#"{"apiVersion":"v1","kind":"Pod","metadata":{"namespace":"default","name":"web","labels":{"app":"web"}},"spec":{"nodeName":"n1"},"status":{"phase":"Running","podIP":"10.10.1.5"}}"#;
 
 const CLI: &[u8] =
-    b"{\"apiVersion\":\"v1\",\"kind\":\"Pod\",\"metadata\":{\"namespace\":\"default\",\"name\":\"cli\",\"labels\":{\"app\":\"cli\"}},\"spec\":{\"nodeName\":\"n1\"},\"status\":{\"phase\":\"Running\",\"podIP\":\"10.10.1.6\"}}\n";
+    br#"{"apiVersion":"v1","kind":"Pod","metadata":{"namespace":"default","name":"cli","labels":{"app":"cli"}},"spec":{"nodeName":"n1"},"status":{"phase":"Running","podIP":"10.10.1.6"}}"#;
+
+const DB: &[u8] =
+    br#"{"apiVersion":"v1","kind":"Pod","metadata":{"namespace":"default","name":"db","labels":{"app":"db"}},"spec":{"nodeName":"n2"},"status":{"phase":"Running","podIP":"10.10.2.7"}}"#;
 
 const JOB_DONE: &[u8] =
-    b"{\"apiVersion\":\"v1\",\"kind\":\"Pod\",\"metadata\":{\"namespace\":\"default\",\"name\":\"job\"},\"spec\":{\"nodeName\":\"n1\"},\"status\":{\"phase\":\"Succeeded\",\"podIP\":\"10.10.1.5\"}}\n";
+    br#"{"apiVersion":"v1","kind":"Pod","metadata":{"namespace":"default","name":"job"},"spec":{"nodeName":"n1"},"status":{"phase":"Succeeded","podIP":"10.10.1.5"}}"#;
 
 const JOB: &[u8] =
-    b"{\"apiVersion\":\"v1\",\"kind\":\"Pod\",\"metadata\":{\"namespace\":\"default\",\"name\":\"job\"},\"spec\":{\"nodeName\":\"n1\"},\"status\":{\"phase\":\"Running\",\"podIP\":\"10.10.1.5\"}}\n";
+    br#"{"apiVersion":"v1","kind":"Pod","metadata":{"namespace":"default","name":"job"},"spec":{"nodeName":"n1"},"status":{"phase":"Running","podIP":"10.10.1.5"}}"#;
 
 const JOB_ODD_LABEL: &[u8] =
-    b"{\"apiVersion\":\"v1\",\"kind\":\"Pod\",\"metadata\":{\"name\":\"job\",\"labels\":{\"-\":\"x\"}},\"status\":{\"podIP\":\"10.10.1.5\"}}\n";
+    br#"{"apiVersion":"v1","kind":"Pod","metadata":{"name":"job","labels":{"-":"x"}},"status":{"podIP":"10.10.1.5"}}"#;
 
 const POLICY: &[u8] =
-    b"{\"apiVersion\":\"networking.k8s.io/v1\",\"kind\":\"NetworkPolicy\",\"metadata\":{\"namespace\":\"default\",\"name\":\"web-in\"},\"spec\":{\"podSelector\":{\"matchLabels\":{\"app\":\"web\"}},\"policyTypes\":[\"Ingress\"],\"ingress\":[{\"from\":[{\"podSelector\":{\"matchLabels\":{\"app\":\"cli\"}}}],\"ports\":[{\"protocol\":\"TCP\",\"port\":80}]}]}}\n";
+    br#"{"apiVersion":"networking.k8s.io/v1","kind":"NetworkPolicy","metadata":{"namespace":"default","name":"web-in"},"spec":{"podSelector":{"matchLabels":{"app":"web"}},"policyTypes":["Ingress"],"ingress":[{"from":[{"podSelector":{"matchLabels":{"app":"cli"}}}],"ports":[{"protocol":"TCP","port":80}]}]}}"#;
 
 pub(crate) const ASK_80: &[u8] =
-    b"{\"type\":\"X-ASK\",\"view\":\"policies\",\"node\":\"n1\",\"direction\":\"ingress\",\"own\":\"10.10.1.5\",\"peer\":\"10.10.1.6\",\"protocol\":\"tcp\",\"port\":80}\n";
+    br#"{"type":"X-ASK","view":"policies","node":"n1","direction":"ingress","own":"10.10.1.5","peer":"10.10.1.6","protocol":"tcp","port":80}"#;
 
 const ASK_81: &[u8] =
-    b"{\"type\":\"X-ASK\",\"view\":\"policies\",\"node\":\"n1\",\"direction\":\"ingress\",\"own\":\"10.10.1.5\",\"peer\":\"10.10.1.6\",\"protocol\":\"tcp\",\"port\":81}\n";
+    br#"{"type":"X-ASK","view":"policies","node":"n1","direction":"ingress","own":"10.10.1.5","peer":"10.10.1.6","protocol":"tcp","port":81}"#;
 
 const ASK_N9: &[u8] =
-    b"{\"type\":\"X-ASK\",\"view\":\"policies\",\"node\":\"n9\",\"direction\":\"ingress\",\"own\":\"10.10.1.5\",\"peer\":\"10.10.1.6\",\"protocol\":\"tcp\",\"port\":81}\n";
+    br#"{"type":"X-ASK","view":"policies","node":"n9","direction":"ingress","own":"10.10.1.5","peer":"10.10.1.6","protocol":"tcp","port":81}"#;
 
 const ASK_N9_NO_PORT: &[u8] =
-    b"{\"type\":\"X-ASK\",\"view\":\"policies\",\"node\":\"n9\",\"direction\":\"ingress\",\"own\":\"10.10.1.5\",\"peer\":\"10.10.1.6\",\"protocol\":\"tcp\"}\n";
+    br#"{"type":"X-ASK","view":"policies","node":"n9","direction":"ingress","own":"10.10.1.5","peer":"10.10.1.6","protocol":"tcp"}"#;
 
 // The lines of a file, the exit status, and what is written.
 type Row = (&'static [&'static [u8]], u8, &'static [u8]);
@@ -46,13 +52,19 @@ type Row = (&'static [&'static [u8]], u8, &'static [u8]);
 const ROWS: &[Row] = &[
     // An unreadable line first; one policy and two questions.
     (
-        &[b"{\n", N1, WEB, CLI, POLICY, ASK_80, ASK_81],
+        &[b"{", N1, N2, WEB, CLI, DB, POLICY, ASK_80, ASK_81],
         1,
-        b"1 refused NotJson\n2 nodes 1\n3 revision 1\n4 revision 2\n5 revision 3\n6 controller 3 allow by knp:default/web-in ingress[0]\n7 controller 3 drop by isolation\n",
+        b"1 refused NotJson\n2 nodes 1\n3 nodes 2\n4 revision 1\n5 revision 2\n6 revision 3\n7 revision 4\n8 controller 4 allow by knp:default/web-in ingress[0]\n9 controller 4 drop by isolation\n",
+    ),
+    // An unreadable line last.
+    (
+        &[N1, N2, WEB, CLI, DB, b"{"],
+        1,
+        b"1 nodes 1\n2 nodes 2\n3 revision 1\n4 revision 2\n5 revision 3\n6 refused NotJson\n",
     ),
     // The second line is cut short.
     (
-        &[N1, b"{\"type\":\"ADDED\",\"obj"],
+        &[N1, br#"{"type":"ADDED","obj"#],
         1,
         b"1 nodes 1\n2 refused NotJson\n",
     ),
@@ -70,7 +82,7 @@ const ROWS: &[Row] = &[
     ),
     // Questions before the nodes are fixed, and of a node that isn't listed.
     (
-        &[N1, ASK_80, WEB, ASK_N9, b" \t\r\n", ASK_80],
+        &[N1, ASK_80, WEB, ASK_N9, b" \t\r", ASK_80],
         1,
         b"1 nodes 1\n2 refused NoNode\n3 revision 1\n4 refused NoNode\n6 controller 1 allow by default\n",
     ),
@@ -88,10 +100,13 @@ const ROWS: &[Row] = &[
     ),
 ];
 
-// The lines one after another.
+// The lines, with a line feed between two.
 fn joined(alloc: Global, lines: &[&[u8]]) -> Result<Vec<u8>, AllocError> {
     let mut bytes = Vec::new(alloc);
-    for line in lines {
+    for (place, line) in lines.iter().enumerate() {
+        if place > 0 {
+            bytes.push(b'\n')?;
+        }
         bytes.extend_from_slice(line)?;
     }
     Ok(bytes)

@@ -1,10 +1,10 @@
 use Rattle.std.proofs.Common.{ℕ, ◌<◌, ◌≤◌, ◌^◌, List, map, ◌↔◌, arith}
-use Rattle.std.specs.List.{All, Any, AllPairs}
-use Rattle.cl_types.specs.declared.traffic.Masked.{Masked}
-use Rattle.cl_types.specs.Blocks.{Matches, IsAligned, IsWidest, PortsPrecede, mask_of}
+use Rattle.std.specs.List.{Any, AllPairs, Contains}
+use Rattle.cl_types.specs.declared.service.Masked.{Masked}
+use Rattle.cl_types.specs.Blocks.{Matches, IsMaximalPorts, PortsPrecede, mask_of}
 use Rattle.cl_types.proofs.Mapped.{made}
 use Rattle.cl_types.proofs.Spans.{all_spans}
-use Rattle.cl_types.proofs.PortBlocks.{all_ports, port_spans, exact_ports, aligned_ports, widest_ports, ascending_ports}
+use Rattle.cl_types.proofs.PortBlocks.{all_ports, port_spans, exact_ports, maximal_ports, ascending_ports}
 use Rattle.cl_types.proofs.blocks.blocks_of_range.Goals as goal
 
 pub add_spans-requires-clause-larger : goal.add_spans-requires-clause-larger
@@ -20,15 +20,10 @@ returns-clause-exact c =
     let are = all_spans (λ n. (c.args.lo ≤ n) × (n ≤ c.args.hi)) all_ports c.new-spans.result.items c.add_spans.new.spans.items c.as_slice.result.now c.new-spans.ensures.items c.in_ok-add_spans.ensures c.as_slice.ensures.value in
     made c.masks.result (map mask_of c.as_slice.result.now) (λ (blocks : List Masked). (port : ℕ) → port < 2 ^ 16 → ((c.args.lo ≤ port) × (port ≤ c.args.hi)) ↔ Any (λ b. Matches b port) blocks) (exact_ports c.args.lo c.args.hi c.as_slice.result.now are) c.masks.ensures
 
-pub returns-clause-aligned : goal.returns-clause-aligned
-returns-clause-aligned c =
+pub returns-clause-maximal : goal.returns-clause-maximal
+returns-clause-maximal c =
     let are = all_spans (λ n. (c.args.lo ≤ n) × (n ≤ c.args.hi)) all_ports c.new-spans.result.items c.add_spans.new.spans.items c.as_slice.result.now c.new-spans.ensures.items c.in_ok-add_spans.ensures c.as_slice.ensures.value in
-    made c.masks.result (map mask_of c.as_slice.result.now) (All IsAligned) (aligned_ports c.args.lo c.args.hi c.as_slice.result.now are) c.masks.ensures
-
-pub returns-clause-widest : goal.returns-clause-widest
-returns-clause-widest c =
-    let are = all_spans (λ n. (c.args.lo ≤ n) × (n ≤ c.args.hi)) all_ports c.new-spans.result.items c.add_spans.new.spans.items c.as_slice.result.now c.new-spans.ensures.items c.in_ok-add_spans.ensures c.as_slice.ensures.value in
-    made c.masks.result (map mask_of c.as_slice.result.now) (All (λ (b : Masked). 0 < b.mask → IsWidest c.args.lo c.args.hi b)) (widest_ports c.args.lo c.args.hi c.as_slice.result.now are) c.masks.ensures
+    made c.masks.result (map mask_of c.as_slice.result.now) (λ (blocks : List Masked). (b : Masked) → IsMaximalPorts c.args.lo c.args.hi b ↔ Contains blocks b) (maximal_ports c.args.lo c.args.hi c.as_slice.result.now are) c.masks.ensures
 
 pub returns-clause-ascending : goal.returns-clause-ascending
 returns-clause-ascending c =

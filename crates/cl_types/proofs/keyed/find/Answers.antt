@@ -1,5 +1,5 @@
 use Rattle.std.proofs.Common.{sym, ◌∙◌, ap, Some}
-use Rattle.cl_types.proofs.AscendingLists.{found_at_place, found_in_gap}
+use Rattle.cl_types.specs.AscendingLaws.{found_at_place, found_in_gap}
 use Rattle.cl_types.proofs.keyed.find.Goals as goal
 
 pub returns-in-Ok : goal.returns-in-Ok

@@ -1,6 +1,5 @@
 use Rattle.std.proofs.Common.{sym, ◌∙◌}
-use Rattle.cl_types.specs.AscendingLaws.{ascends_put}
-use Rattle.cl_types.proofs.AscendingLists.{put_at_place, put_in_gap}
+use Rattle.cl_types.specs.AscendingLaws.{ascends_put, put_at_place, put_in_gap}
 use Rattle.cl_types.proofs.keyed.put.Goals as goal
 
 pub returns-in-Ok-clause-ok : goal.returns-in-Ok-clause-ok

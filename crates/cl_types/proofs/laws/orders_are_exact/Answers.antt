@@ -1,4 +1,4 @@
-use Rattle.cl_types.proofs.Orders.{addr_order_exact, policy_order_exact, pod_order_exact, rule_order_exact}
+use Rattle.cl_types.specs.OrderLaws.{addr_order_exact, policy_order_exact, pod_order_exact, rule_order_exact}
 use Rattle.cl_types.proofs.laws.orders_are_exact.Goals as goal
 
 pub returns-clause-addresses : goal.returns-clause-addresses

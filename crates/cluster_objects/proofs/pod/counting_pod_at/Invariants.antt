@@ -1,6 +1,6 @@
 use Rattle.std.proofs.Common.{◌≡◌, ◌&&◌, drop, find}
-use Rattle.cluster_objects.specs.Evaluation.{has_address}
-use Rattle.cluster_objects.specs.Groups.{counts}
+use Rattle.cluster_objects.specs.Pod.{has_address}
+use Rattle.cluster_objects.specs.Pod.{counts}
 use Rattle.cluster_objects.proofs.pod.counting_pod_at.Given as goal
 
 -- what is sought is among the pods that are left

@@ -1,6 +1,6 @@
 use Rattle.std.proofs.lemmas.List.Filters.{dedup_is}
 use Rattle.std.proofs.Common.{◌∙◌}
-use Rattle.label_select.proofs.SortedSets.{dedup_sorted}
+use Rattle.cl_types.specs.SortedSetLaws.{dedup_sorted}
 use Rattle.label_select.proofs.canonical.sort_once.Goals as goal
 
 pub returns : goal.returns

@@ -1,5 +1,5 @@
 use Rattle.std.proofs.Common.{sym, ◌∙◌, ap, unwrap_or, [], option_copied}
-use Rattle.cl_types.specs.Equality.{text_eq}
+use Rattle.cl_types.specs.Text.{text_eq}
 use Rattle.label_select.specs.Selection.{value_at}
 use Rattle.label_select.proofs.SetLabels.{value_put_same, value_put_other}
 use Rattle.label_select.proofs.named.value_with.Goals as goal

@@ -1,12 +1,11 @@
 use Rattle.std.proofs.Common.{◌≡◌, ◌++◌, ◌&&◌, List, drop, filter, option_copied}
 use Rattle.cluster_objects.specs.declared.policy.Rule.{Rule}
-use Rattle.cluster_objects.specs.Evaluation.{rule_has, rule_key}
+use Rattle.cluster_objects.specs.Evaluation.{rule_matches, rule_key}
 use Rattle.cluster_objects.specs.Steps.{in_stage, first}
-use Rattle.policy_order.specs.Stages.{stage_of}
 use Rattle.policy_order.proofs.rules.first_of_policy.Given as goal
 
 -- the first of the rules that were looked at, and of those after them
 abbrev pub invariant-loop-i : goal.invariant-loop-i
 invariant-loop-i l =
     (later : List Rule) → option_copied l.fn.after ≡ first rule_key later
-    → option_copied l.found ≡ first rule_key (filter (λ r. in_stage (stage_of l.stage) l.policy.key.kind r.key && rule_has l.c l.policy r l.pod l.q) (drop l.i l.rules) ++ later)
+    → option_copied l.found ≡ first rule_key (filter (λ r. in_stage l.stage l.policy.key.kind r.key && rule_matches l.c l.policy r l.pod l.q) (drop l.i l.rules) ++ later)

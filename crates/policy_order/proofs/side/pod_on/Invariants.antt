@@ -1,7 +1,8 @@
 use Rattle.std.proofs.Common.{◌≡◌, ◌&&◌, drop, find}
-use Rattle.cl_types.specs.Equality.{text_eq}
-use Rattle.cluster_objects.specs.Evaluation.{has_address, pod_on}
-use Rattle.cluster_objects.specs.Groups.{counts}
+use Rattle.cl_types.specs.Text.{text_eq}
+use Rattle.cluster_objects.specs.Pod.{has_address}
+use Rattle.cluster_objects.specs.Evaluation.{pod_on}
+use Rattle.cluster_objects.specs.Pod.{counts}
 use Rattle.policy_order.proofs.side.pod_on.Given as goal
 
 -- what is sought is among the pods that are left

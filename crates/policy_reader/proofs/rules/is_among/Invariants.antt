@@ -1,6 +1,6 @@
 use Rattle.std.proofs.Common.{◌≡◌, map, drop, string_bytes}
 use Rattle.std.specs.List.{list_any}
-use Rattle.cl_types.specs.Equality.{text_eq}
+use Rattle.cl_types.specs.Text.{text_eq}
 use Rattle.policy_reader.proofs.rules.is_among.Given as goal
 
 -- what the names that are left decide is what all of them decide

@@ -1,21 +1,20 @@
-use Rattle.std.proofs.Common.{sym, ◌∙◌, ap}
+use Rattle.std.proofs.Common.{Some, None, sym, ◌∙◌, ap}
 use Rattle.cl_types.specs.Prefix.{Block}
-use Rattle.policy_reader.proofs.AddressTexts.{read_block, no_block, other_family}
+use Rattle.cl_types.specs.Reading.{IsPrefix}
+use Rattle.policy_reader.proofs.AddressTexts.{none_read, block_read, base_decides}
 use Rattle.policy_reader.proofs.texts.block_of.Goals as goal
 
 pub returns-in-V4 : goal.returns-in-V4
 returns-in-V4 c =
-    sym (read_block c.written_is_read.ensures.addresses c.decimals_have_one_text.ensures c.texts_have_one_reading.ensures.prefixes
-    c.args.text.now c.in-Ok.prefix c.in-V4.field-0 (ap (λ (b : Block). b.base) (sym c.prefix.view_is) ∙ c.in-V4.is) c.in-Ok.ensures.found)
+    base_decides c.in-Ok.prefix _ (ap (λ (b : Block). b.base) (sym c.prefix.view_is) ∙ c.in-V4.is)
+    ∙ block_read c.args.text.now (Some c.in-Ok.prefix) ((c.texts_are_read_as_functions.ensures.blocks c.args.text.now c.in-Ok.prefix).1 c.in-Ok.ensures.found)
 
 pub returns-in-V6 : goal.returns-in-V6
 returns-in-V6 c =
-    sym (no_block c.written_is_read.ensures.addresses c.decimals_have_one_text.ensures c.texts_have_one_reading.ensures.prefixes
-    c.args.text.now (λ p m base form. other_family (sym base
-    ∙ ap (λ (b : Block). b.base) (c.texts_have_one_reading.ensures.prefixes c.args.text.now p c.in-Ok.prefix form c.in-Ok.ensures.found ∙ sym c.prefix.view_is)
-    ∙ c.in-V6.is)))
+    base_decides c.in-Ok.prefix _ (ap (λ (b : Block). b.base) (sym c.prefix.view_is) ∙ c.in-V6.is)
+    ∙ block_read c.args.text.now (Some c.in-Ok.prefix) ((c.texts_are_read_as_functions.ensures.blocks c.args.text.now c.in-Ok.prefix).1 c.in-Ok.ensures.found)
 
 pub returns-in-Err : goal.returns-in-Err
 returns-in-Err c =
-    sym (no_block c.written_is_read.ensures.addresses c.decimals_have_one_text.ensures c.texts_have_one_reading.ensures.prefixes
-    c.args.text.now (λ p m base form. c.in-Err.ensures.bad p form))
+    block_read c.args.text.now None
+    (none_read (IsPrefix c.args.text.now) _ (c.texts_are_read_as_functions.ensures.blocks c.args.text.now) c.in-Err.ensures.bad)

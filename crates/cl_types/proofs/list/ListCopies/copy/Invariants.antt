@@ -1,6 +1,0 @@
-use Rattle.std.proofs.Common.{◌≡◌, take}
-use Rattle.cl_types.proofs.list.ListCopies.copy.Given as goal
-
--- so far each item was copied
-abbrev pub invariant-loop-item : goal.invariant-loop-item
-invariant-loop-item g l = l.items.items ≡ take l.item-index l.item-items

@@ -1,8 +1,0 @@
-use Rattle.std.specs.Prelude.{ℕ}
-use Rattle.cl_types.specs.declared.traffic.Proto.{Proto}
-
--- destination ports of one protocol, from lo to hi, as plain data
-pub record PortRange : Type 0 where
-  pub proto : Proto
-  pub lo : ℕ
-  pub hi : ℕ
