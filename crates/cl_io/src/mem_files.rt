@@ -195,6 +195,7 @@ impl Files for MemFiles {
         ensures places { (files_state self.new).places ≡ (files_state self.old).places - 1 }
         ensures told { is_some (files_state self.new).tried ≡ (is_some (files_state self.old).tried
             && nat_lt 0 (files_state self.old).places && (files_state self.old).knows name.now) }
+        ensures told_taken { is_some (files_state self.new).taken ≡ is_some (files_state self.new).tried }
     {
         let fails = self.script.fails();
         let file = file_at(self.files.as_slice(), name);

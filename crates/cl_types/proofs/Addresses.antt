@@ -11,7 +11,7 @@ use Rattle.cl_types.specs.declared.addr.Addr.TheVariants.{V4, V6}
 use Rattle.cl_types.specs.declared.reading.Family.TheVariants.{Dotted, Colons}
 use Rattle.cl_types.specs.Reading.{IsParts, IsFull, IsShortened, IsDotted, IsOctet, IsAddress, IsPrefix, Lacks, HasNoGap}
 use Rattle.cl_types.specs.Addr.{width_of}
-use Rattle.cl_types.specs.Prefix.{Block, cleared}
+use Rattle.cl_types.specs.Prefix.{PrefixData, cleared}
 use Rattle.cl_types.proofs.Parts.{parts_unique, parts_lack, lacks_cons, lacks_no_cut, cut_unique, part_same}
 use Rattle.cl_types.proofs.Gap.{parts_gap, parts_no_gap, has_gap, gap_unique}
 
@@ -109,7 +109,7 @@ around_fits n c m d gap nb mb =
     omega (arith, mul-add-lt n (65536 ^ (8 - c)) m (65536 ^ c) nb rest)
 
 -- the two sides of the slash
-pub record Sides (address len : List ℕ) (p : Block) : Type 0 where
+pub record Sides (address len : List ℕ) (p : PrefixData) : Type 0 where
   pub a : Addr
   pub form : IsAddress address a
   pub below : p.len ≤ width_of a
@@ -120,7 +120,7 @@ pub width_small : (a : Addr) → width_of a < 256
 width_small (V4 n) = omega arith
 width_small (V6 n) = omega arith
 
-pub prefix_sides : (text address len : List ℕ) (p : Block) → text ≡ address ++ 47 ∷ len → Lacks 47 address → IsPrefix text p → Sides address len p
+pub prefix_sides : (text address len : List ℕ) (p : PrefixData) → text ≡ address ++ 47 ∷ len → Lacks 47 address → IsPrefix text p → Sides address len p
 prefix_sides text address len p whole first o =
     let same = cut_unique 47 o.address_text address (decimal p.len) len (address_lacks o.address_text o.address o.form) first (sym o.whole ∙ whole) in
     record {
@@ -131,7 +131,7 @@ prefix_sides text address len p whole first o =
       base = o.base;
     }
 
-pub prefix_unique : (text : List ℕ) (p q : Block) → IsPrefix text p → IsPrefix text q → p ≡ q
+pub prefix_unique : (text : List ℕ) (p q : PrefixData) → IsPrefix text p → IsPrefix text q → p ≡ q
 prefix_unique text p q o r =
     let sides = prefix_sides text r.address_text (decimal q.len) p r.whole (address_lacks r.address_text r.address r.form) o in
     let a = address_unique r.address_text sides.a r.address sides.form r.form in

@@ -10,7 +10,7 @@ use Rattle.cl_types.specs.declared.addr.Addr.{Addr}
 use Rattle.cl_types.specs.declared.addr.Addr.TheVariants.{V4, V6}
 use Rattle.cl_types.specs.declared.blocks.Span.{Span}
 use Rattle.cl_types.specs.Addr.{width_of, number_of, with_number}
-use Rattle.cl_types.specs.Prefix.{Block, IsBlock, Holds, cleared}
+use Rattle.cl_types.specs.Prefix.{PrefixData, IsBlock, Holds, cleared}
 use Rattle.cl_types.specs.Blocks.{Remains, shorter, IsLargest, IsMaximalBlock, AddressesPrecede, Within, wider, Overshoots, AreSpansOf, AppendsSpansOf, span_of, block_at, FitsWidth}
 use Rattle.cl_types.proofs.SpanBounds.{least_within, within_high, ends_within, index_below, wider_below, least_wider, fits_wider, shr_chain}
 use Rattle.cl_types.proofs.Remaining.{number-with_number, width-with_number, with_own_number, within_from_holds, holds_from_within, block_len}
@@ -30,7 +30,7 @@ other_half s = ⊎_elim
     (λ odd. sibling s (s.index - 1) (omega arith) (λ e. omega arith))
     (cases_lt (s.index % 2) 1)
 
-pub block_overshoots : (p : Block) (es : List Block) → Overshoots (λ n. Remains p es (with_number p.base n)) (wider (span_of p))
+pub block_overshoots : (p : PrefixData) (es : List PrefixData) → Overshoots (λ n. Remains p es (with_number p.base n)) (wider (span_of p))
 block_overshoots p es =
     let o = other_half (span_of p) in
     (o.0, o.1, λ r. o.2 (within_from_holds p p.base o.0 r.0))
@@ -73,7 +73,7 @@ shorter_holds : (base : Addr) (s : Span) (n : ℕ) → s.height < width_of base 
 shorter_holds (V4 m) s n low v = record { family = refl; bits = shorter_bits 32 s n low v }
 shorter_holds (V6 m) s n low v = record { family = refl; bits = shorter_bits 128 s n low v }
 
-largest_block : (p : Block) (es : List Block) (s : Span) → FitsWidth (width_of p.base) s → Overshoots (λ n. Remains p es (with_number p.base n)) (wider s) → 0 < (block_at p.base s).len → IsLargest p es (block_at p.base s)
+largest_block : (p : PrefixData) (es : List PrefixData) (s : Span) → FitsWidth (width_of p.base) s → Overshoots (λ n. Remains p es (with_number p.base n)) (wider s) → 0 < (block_at p.base s).len → IsLargest p es (block_at p.base s)
 largest_block p es s f o some =
     let low : s.height < width_of p.base = omega arith in
     let small = wider_below (width_of p.base) s o.0 low f.fits o.1 in
@@ -99,7 +99,7 @@ block_form (V6 m) s low = (omega arith, low_bits 128 s.height s.index low)
 whole_number : (w len n : ℕ) → n % 2 ^ (w - len) ≡ 0 → n / 2 ^ (w - len) * 2 ^ (w - len) ≡ n
 whole_number w len n zero = omega (arith, mod-eq-sub-div-mul n (2 ^ (w - len)), div-mul-le_self n (2 ^ (w - len)))
 
-block_at_span : (base : Addr) (b : Block) → width_of b.base ≡ width_of base → IsBlock b.base b.len → block_at base (span_of b) ≡ b
+block_at_span : (base : Addr) (b : PrefixData) → width_of b.base ≡ width_of base → IsBlock b.base b.len → block_at base (span_of b) ≡ b
 block_at_span base b family form =
     let len : width_of base - (width_of b.base - b.len) ≡ b.len = omega (arith, family, block_len b.base b.len form) in
     let number = block_number b.base b.len form in
@@ -118,7 +118,7 @@ shorter_bits_within w len n m some low e =
     ap (λ k. m / 2 ^ k) (sym free) ∙ e ∙ shl-shr (n / 2 ^ (w - (len - 1))) (w - (len - 1)) ∙ ap (λ k. n / 2 ^ k) free
     ∙ shr_chain n (w - len) (w - len + 1) (omega arith) ∙ ap (λ k. n / 2 ^ (w - len) / 2 ^ k) one
 
-shorter_within : (b : Block) (a : Addr) → IsBlock b.base b.len → 0 < b.len → Holds (shorter b) a → Within (wider (span_of b)) (number_of a) × (width_of a ≡ width_of b.base)
+shorter_within : (b : PrefixData) (a : Addr) → IsBlock b.base b.len → 0 < b.len → Holds (shorter b) a → Within (wider (span_of b)) (number_of a) × (width_of a ≡ width_of b.base)
 shorter_within b a form some held = of_base b.base b.len form some held.family held.bits
   where
     of_base : (base : Addr) (len : ℕ) → IsBlock base len → 0 < len → width_of a ≡ width_of (cleared base (len - 1))
@@ -127,7 +127,7 @@ shorter_within b a form some held = of_base b.base b.len form some held.family h
     of_base (V4 n) len form some family bits = (shorter_bits_within 32 len n (number_of a) some form.0 bits, family)
     of_base (V6 n) len form some family bits = (shorter_bits_within 128 len n (number_of a) some form.0 bits, family)
 
-module _ (p : Block) (es : List Block) (spans : List Span) (whole : FitsWidth (width_of p.base) (span_of p)) (are : AreSpansOf (λ n. Remains p es (with_number p.base n)) (span_of p) spans) where
+module _ (p : PrefixData) (es : List PrefixData) (spans : List Span) (whole : FitsWidth (width_of p.base) (span_of p)) (are : AreSpansOf (λ n. Remains p es (with_number p.base n)) (span_of p) spans) where
   pub fit_spans : All (FitsWidth (width_of p.base)) spans
   fit_spans = λ k d h.
       let s = get_or spans k d in
@@ -167,7 +167,7 @@ module _ (p : Block) (es : List Block) (spans : List Span) (whole : FitsWidth (w
       remains_at : (s : Span) → ((n : ℕ) → Within s n → Remains p es (with_number p.base n)) → (a : Addr) → Within s (number_of a) × (width_of a ≡ width_of p.base) → Remains p es a
       remains_at s has a within = subst (Remains p es) (with_own_number p.base a (sym within.1)) (has (number_of a) within.0)
 
-  maximal_found_block : (b : Block) → IsMaximalBlock p es b → Contains (map (block_at p.base) spans) b
+  maximal_found_block : (b : PrefixData) → IsMaximalBlock p es b → Contains (map (block_at p.base) spans) b
   maximal_found_block b is =
       let family : width_of b.base ≡ width_of p.base = (is.inside b.base (record { family = refl; bits = refl })).0.family in
       let t = span_of b in
@@ -181,7 +181,7 @@ module _ (p : Block) (es : List Block) (spans : List Span) (whole : FitsWidth (w
       let near = shorter_within b o.address is.form (omega (arith, family)) o.held in
       (number_of o.address, near.0, λ r. o.outside (subst (Remains p es) (with_own_number p.base o.address (sym (near.1 ∙ family))) r))))
 
-  pub maximal_blocks : (b : Block) → IsMaximalBlock p es b ↔ Contains (map (block_at p.base) spans) b
+  pub maximal_blocks : (b : PrefixData) → IsMaximalBlock p es b ↔ Contains (map (block_at p.base) spans) b
   maximal_blocks b = (maximal_found_block b, all_contained (IsMaximalBlock p es) (map (block_at p.base) spans) b maximal_each)
 
   pub ascending_blocks : AllPairs AddressesPrecede (map (block_at p.base) spans)
@@ -190,10 +190,10 @@ module _ (p : Block) (es : List Block) (spans : List Span) (whole : FitsWidth (w
       (block_holds p.base x (get_or spans i d) (fit_spans i d (omega arith)).low hx).0
       (block_holds p.base y (get_or spans j d) (fit_spans j d within).low hy).0)
 
-pub spans_of : (p : Block) (es : List Block) (s : Span) (old new now : List Span) → s ≡ span_of p → old ≡ [] → AppendsSpansOf (λ n. Remains p es (with_number p.base n)) s old new → now ≡ new
+pub spans_of : (p : PrefixData) (es : List PrefixData) (s : Span) (old new now : List Span) → s ≡ span_of p → old ≡ [] → AppendsSpansOf (λ n. Remains p es (with_number p.base n)) s old new → now ≡ new
     → AreSpansOf (λ n. Remains p es (with_number p.base n)) (span_of p) now
 spans_of p es s old new now is none a e =
     subst (λ (t : Span). AreSpansOf (λ n. Remains p es (with_number p.base n)) t now) is (all_spans (λ n. Remains p es (with_number p.base n)) s old new now none a e)
 
-pub whole_fits : (p : Block) (s : Span) → s ≡ span_of p → s.height ≤ width_of p.base → s.index < 2 ^ (width_of p.base - s.height) → FitsWidth (width_of p.base) (span_of p)
+pub whole_fits : (p : PrefixData) (s : Span) → s ≡ span_of p → s.height ≤ width_of p.base → s.index < 2 ^ (width_of p.base - s.height) → FitsWidth (width_of p.base) (span_of p)
 whole_fits p s is low fits = subst (FitsWidth (width_of p.base)) is (record { low = low; fits = fits })

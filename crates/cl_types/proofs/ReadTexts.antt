@@ -17,7 +17,7 @@ use Rattle.cl_types.specs.declared.reading.Family.{Family}
 use Rattle.cl_types.specs.declared.reading.Family.TheVariants.{Dotted, Colons}
 use Rattle.cl_types.specs.Addr.{width_of}
 use Rattle.cl_types.specs.OrderLaws.{text_eq-itself, text_eq-one}
-use Rattle.cl_types.specs.Prefix.{Block, cleared}
+use Rattle.cl_types.specs.Prefix.{PrefixData, cleared}
 use Rattle.cl_types.specs.Reading.{separator_of, IsHexGroup, IsOctet, IsPart, IsParts, IsDotted, IsFull, IsShortened, IsAddress, IsPrefix, HasNoGap, Lacks}
 use Rattle.cl_types.specs.ReadText.{where_true, or_first, all_there, read_octet, read_hex_group, read_part, read_parts, read_number, cut_gap, around_gap, read_shortened, read_address, block_of_halves, read_block}
 use Rattle.cl_types.specs.Text.{text_eq}
@@ -303,7 +303,7 @@ at_most_from_test : (m n : ℕ) → nat_le m n ≡ true → m ≤ n
 at_most_from_test m n h = grind (arith, nat_tests)
 
 -- the text of a block is cut into the address and the length
-halves : (t : List ℕ) (b : Block) (p : IsPrefix t b) → slice_split (λ c. eqb c 47) t ≡ p.address_text ∷ decimal b.len ∷ []
+halves : (t : List ℕ) (b : PrefixData) (p : IsPrefix t b) → slice_split (λ c. eqb c 47) t ≡ p.address_text ∷ decimal b.len ∷ []
 halves t b p =
     let address = no_separator 47 p.address_text (address_lacks p.address_text p.address p.form) in
     let small : b.len < 2 ^ 64 = omega (arith, p.len, width_small p.address) in
@@ -312,26 +312,26 @@ halves t b p =
     ∙ slice_split_at (λ c. eqb c 47) p.address_text 47 (decimal b.len) address refl
     ∙ ap (λ ts. p.address_text ∷ ts) (slice_split_none (λ c. eqb c 47) (decimal b.len) len)
 
-abbrev of_length : Addr → Option ℕ → Option Block
+abbrev of_length : Addr → Option ℕ → Option PrefixData
 of_length a ol = option_and_then (λ n. where_true (nat_le n (width_of a)) (record { base = cleared a n; len = n })) ol
 
-read_from_prefix : (t : List ℕ) (b : Block) → IsPrefix t b → read_block t ≡ Some b
+read_from_prefix : (t : List ℕ) (b : PrefixData) → IsPrefix t b → read_block t ≡ Some b
 unfolding read_block
 read_from_prefix t b p =
     ap block_of_halves (halves t b p)
     ∙ ap (option_and_then (λ a. of_length a (read_octet (decimal b.len)))) ((address_read p.address_text p.address).1 p.form)
     ∙ ap (of_length p.address) ((octet_read (decimal b.len) b.len).1 (record { below = omega (arith, p.len, width_small p.address); value = refl }))
-    ∙ ap (λ test. where_true test (let c : Block = record { base = cleared p.address b.len; len = b.len } in c)) (at_most_test b.len (width_of p.address) p.len)
+    ∙ ap (λ test. where_true test (let c : PrefixData = record { base = cleared p.address b.len; len = b.len } in c)) (at_most_test b.len (width_of p.address) p.len)
     ∙ ap Some (let base = sym p.base in (λ i. record { base = base i; len = b.len }))
 
-prefix_of_parts : (a l : List ℕ) (b : Block) (oa : Option Addr) (ol : Option ℕ) → Decides oa (IsAddress a) → Decides ol (IsOctet l) → option_and_then (λ x. of_length x ol) oa ≡ Some b → IsPrefix (a ++ 47 ∷ l) b
+prefix_of_parts : (a l : List ℕ) (b : PrefixData) (oa : Option Addr) (ol : Option ℕ) → Decides oa (IsAddress a) → Decides ol (IsOctet l) → option_and_then (λ x. of_length x ol) oa ≡ Some b → IsPrefix (a ++ 47 ∷ l) b
 prefix_of_parts a l b None ol da dl e = cc
 prefix_of_parts a l b (Some x) None da dl e = cc
 prefix_of_parts a l b (Some x) (Some n) da dl e = by_test (nat_le n (width_of x)) refl e
   where
-    by_test : (test : Bool) → nat_le n (width_of x) ≡ test → where_true test (let c : Block = record { base = cleared x n; len = n } in c) ≡ Some b → IsPrefix (a ++ 47 ∷ l) b
+    by_test : (test : Bool) → nat_le n (width_of x) ≡ test → where_true test (let c : PrefixData = record { base = cleared x n; len = n } in c) ≡ Some b → IsPrefix (a ++ 47 ∷ l) b
     by_test true is f =
-        let same : (let c : Block = record { base = cleared x n; len = n } in c) ≡ b = some_same _ _ f in
+        let same : (let c : PrefixData = record { base = cleared x n; len = n } in c) ≡ b = some_same _ _ f in
         subst (IsPrefix (a ++ 47 ∷ l)) same (record {
           address = x;
           address_text = a;
@@ -342,17 +342,17 @@ prefix_of_parts a l b (Some x) (Some n) da dl e = by_test (nat_le n (width_of x)
         })
     by_test false is f = cc
 
-prefix_from_halves : (ts : List (List ℕ)) (b : Block) → block_of_halves ts ≡ Some b → IsPrefix (join_with_byte 47 ts) b
+prefix_from_halves : (ts : List (List ℕ)) (b : PrefixData) → block_of_halves ts ≡ Some b → IsPrefix (join_with_byte 47 ts) b
 prefix_from_halves [] b e = cc
 prefix_from_halves (a ∷ []) b e = cc
 prefix_from_halves (a ∷ l ∷ []) b e = prefix_of_parts a l b (read_address a) (read_octet l) (address_decided a) (octet_decided l) e
 prefix_from_halves (a ∷ l ∷ m ∷ ts) b e = cc
 
-prefix_from_read : (t : List ℕ) (b : Block) → read_block t ≡ Some b → IsPrefix t b
+prefix_from_read : (t : List ℕ) (b : PrefixData) → read_block t ≡ Some b → IsPrefix t b
 unfolding read_block
 prefix_from_read t b e =
     subst (λ x. IsPrefix x b) (join_with_byte-slice_split 47 t) (prefix_from_halves (slice_split (λ c. eqb c 47) t) b e)
 
 -- the function finds a block exactly where the text is a form of it
-pub block_read : (t : List ℕ) (b : Block) → (read_block t ≡ Some b) ↔ IsPrefix t b
+pub block_read : (t : List ℕ) (b : PrefixData) → (read_block t ≡ Some b) ↔ IsPrefix t b
 block_read t b = (prefix_from_read t b, read_from_prefix t b)

@@ -10,7 +10,7 @@ use Rattle.cl_types.specs.declared.blocks.Span.{Span}
 use Rattle.cl_types.specs.declared.blocks.Standing.{Standing}
 use Rattle.cl_types.specs.declared.blocks.Standing.TheVariants.{Inside, Outside, Mixed}
 use Rattle.cl_types.specs.Addr.{width_of, number_of, with_number}
-use Rattle.cl_types.specs.Prefix.{Block, Holds, IsBlock}
+use Rattle.cl_types.specs.Prefix.{PrefixData, Holds, IsBlock}
 use Rattle.cl_types.specs.Blocks.{Within, StandsAs, Remains, span_of}
 use Rattle.cl_types.proofs.SpanBounds.{shr_chain, least_within}
 
@@ -28,10 +28,10 @@ with_own_number (V4 m) (V6 n) e = absurd (omega arith)
 with_own_number (V6 m) (V4 n) e = absurd (omega arith)
 with_own_number (V6 m) (V6 n) e = refl
 
-pub within_from_holds : (e : Block) (a : Addr) (n : ℕ) → Holds e (with_number a n) → Within (span_of e) n
+pub within_from_holds : (e : PrefixData) (a : Addr) (n : ℕ) → Holds e (with_number a n) → Within (span_of e) n
 within_from_holds e a n h = ap (λ m. m / 2 ^ (span_of e).height) (sym (number-with_number a n)) ∙ h.bits
 
-pub holds_from_within : (e : Block) (a : Addr) (n : ℕ) → width_of e.base ≡ width_of a → Within (span_of e) n → Holds e (with_number a n)
+pub holds_from_within : (e : PrefixData) (a : Addr) (n : ℕ) → width_of e.base ≡ width_of a → Within (span_of e) n → Holds e (with_number a n)
 holds_from_within e a n same w = record {
   family = width-with_number a n ∙ sym same;
   bits = ap (λ m. m / 2 ^ (span_of e).height) (number-with_number a n) ∙ w;
@@ -41,7 +41,7 @@ holds_from_within e a n same w = record {
 pub quotient : (s t : Span) (n : ℕ) → s.height ≤ t.height → Within s n → n / 2 ^ t.height ≡ s.index / 2 ^ (t.height - s.height)
 quotient s t n h w = shr_chain n s.height t.height h ∙ ap (λ m. m / 2 ^ (t.height - s.height)) w
 
-module _ (s t : Span) (a : Addr) (e : Block) (is : t ≡ span_of e) (same : width_of e.base ≡ width_of a) where
+module _ (s t : Span) (a : Addr) (e : PrefixData) (is : t ≡ span_of e) (same : width_of e.base ≡ width_of a) where
   abbrev Kept : ℕ → Type 0
   Kept n = ¬ Holds e (with_number a n)
 
@@ -75,8 +75,8 @@ index_fits w len n low small =
     shr_below n (w - (w - len)) (w - len) (subst (λ m. n < 2 ^ m) whole small)
 
 -- ---- one except more
-module _ (s : Span) (a : Addr) (es : List Block) (i : ℕ) (e : Block) (inside : i < length es) (here : e ≡ get_or es i e) where
-  abbrev Apart : ℕ → Block → Type 0
+module _ (s : Span) (a : Addr) (es : List PrefixData) (i : ℕ) (e : PrefixData) (inside : i < length es) (here : e ≡ get_or es i e) where
+  abbrev Apart : ℕ → PrefixData → Type 0
   Apart n x = ¬ Holds x (with_number a n)
 
   abbrev Left : ℕ → ℕ → Type 0
@@ -99,15 +99,15 @@ module _ (s : Span) (a : Addr) (es : List Block) (i : ℕ) (e : Block) (inside :
   stands_mixed h = (h.0, (h.1.0, h.1.1, λ all. h.1.2 (this h.1.0 all)))
 
 -- one except that has the whole span
-pub stands_outside : (s : Span) (a : Addr) (es : List Block) (i : ℕ) (e : Block) → i < length es → e ≡ get_or es i e → StandsAs (λ n. ¬ Holds e (with_number a n)) s Outside → StandsAs (λ n. All (λ x. ¬ Holds x (with_number a n)) es) s Outside
-stands_outside s a es i e inside here out = λ n w all. out n w (subst (λ (x : Block). ¬ Holds x (with_number a n)) (sym here) (all i e inside))
+pub stands_outside : (s : Span) (a : Addr) (es : List PrefixData) (i : ℕ) (e : PrefixData) → i < length es → e ≡ get_or es i e → StandsAs (λ n. ¬ Holds e (with_number a n)) s Outside → StandsAs (λ n. All (λ x. ¬ Holds x (with_number a n)) es) s Outside
+stands_outside s a es i e inside here out = λ n w all. out n w (subst (λ (x : PrefixData). ¬ Holds x (with_number a n)) (sym here) (all i e inside))
 
 -- no except is left
-pub stands_all : (s : Span) (a : Addr) (es : List Block) (k : ℕ) (st : Standing) → length es ≤ k → StandsAs (λ n. All (λ x. ¬ Holds x (with_number a n)) (take k es)) s st → StandsAs (λ n. All (λ x. ¬ Holds x (with_number a n)) es) s st
-stands_all s a es k st all h = subst (λ (xs : List Block). StandsAs (λ n. All (λ x. ¬ Holds x (with_number a n)) xs) s st) (take_all k es all) h
+pub stands_all : (s : Span) (a : Addr) (es : List PrefixData) (k : ℕ) (st : Standing) → length es ≤ k → StandsAs (λ n. All (λ x. ¬ Holds x (with_number a n)) (take k es)) s st → StandsAs (λ n. All (λ x. ¬ Holds x (with_number a n)) es) s st
+stands_all s a es k st all h = subst (λ (xs : List PrefixData). StandsAs (λ n. All (λ x. ¬ Holds x (with_number a n)) xs) s st) (take_all k es all) h
 
 -- within the block what remains is what the excepts leave
-pub stands_remaining : (p : Block) (es : List Block) (s : Span) (st : Standing) → ((n : ℕ) → Within s n → Within (span_of p) n) → StandsAs (λ n. All (λ x. ¬ Holds x (with_number p.base n)) es) s st → StandsAs (λ n. Remains p es (with_number p.base n)) s st
+pub stands_remaining : (p : PrefixData) (es : List PrefixData) (s : Span) (st : Standing) → ((n : ℕ) → Within s n → Within (span_of p) n) → StandsAs (λ n. All (λ x. ¬ Holds x (with_number p.base n)) es) s st → StandsAs (λ n. Remains p es (with_number p.base n)) s st
 stands_remaining p es s Inside part h = λ n w. (holds_from_within p p.base n refl (part n w), h n w)
 stands_remaining p es s Outside part h = λ n w r. h n w r.1
 stands_remaining p es s Mixed part h = (h.0, (h.1.0, h.1.1, λ r. h.1.2 r.1))

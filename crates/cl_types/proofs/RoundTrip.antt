@@ -15,7 +15,7 @@ use Rattle.cl_types.specs.declared.reading.Family.{Family}
 use Rattle.cl_types.specs.declared.reading.Family.TheVariants.{Dotted, Colons}
 use Rattle.cl_types.specs.declared.writing.ZeroRun.{ZeroRun}
 use Rattle.cl_types.specs.Addr.{width_of, number_of}
-use Rattle.cl_types.specs.Prefix.{Block, IsBlock, cleared}
+use Rattle.cl_types.specs.Prefix.{PrefixData, IsBlock, cleared}
 use Rattle.cl_types.specs.Reading.{separator_of, IsPart, IsParts, IsHexGroup, IsFull, IsShortened, IsDotted, IsAddress, IsPrefix}
 use Rattle.cl_types.specs.Written.{IsZeroRun, places, groups_of, zeros_at_front, longest_run, hexadecimal_groups, compressed, dotted, address_text, prefix_text}
 use Rattle.cl_types.proofs.Digits.{length-digits-le}
@@ -175,7 +175,7 @@ block_is_cleared : (a : Addr) (len : ℕ) → IsBlock a len → (len ≤ width_o
 block_is_cleared (V4 n) len b = (b.0, ap V4 (sym (no_bits_past n (32 - len) b.1)))
 block_is_cleared (V6 n) len b = (b.0, ap V6 (sym (no_bits_past n (128 - len) b.1)))
 
-pub written_prefix_is_read : (b : Block) → number_of b.base < 2 ^ width_of b.base → IsBlock b.base b.len → IsPrefix (prefix_text b) b
+pub written_prefix_is_read : (b : PrefixData) → number_of b.base < 2 ^ width_of b.base → IsBlock b.base b.len → IsPrefix (prefix_text b) b
 written_prefix_is_read b h block =
     let whole = block_is_cleared b.base b.len block in
     record {

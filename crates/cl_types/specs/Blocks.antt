@@ -7,7 +7,7 @@ use Rattle.cl_types.specs.declared.blocks.Standing.{Standing}
 use Rattle.cl_types.specs.declared.blocks.Standing.TheVariants.{Inside, Outside, Mixed}
 use Rattle.cl_types.specs.declared.service.Masked.{Masked}
 use Rattle.cl_types.specs.Addr.{width_of, number_of, with_number}
-use Rattle.cl_types.specs.Prefix.{Block, IsBlock, Holds, cleared, free_bits}
+use Rattle.cl_types.specs.Prefix.{PrefixData, IsBlock, Holds, cleared, free_bits}
 
 -- ---- ports (ovs-fields(7): a port and a mask)
 
@@ -47,15 +47,15 @@ PortsPrecede a b = (m n : ℕ) → m < 2 ^ 16 → n < 2 ^ 16 → Matches a m →
 -- ---- addresses
 
 -- in the block and in no except
-abbrev pub Remains : Block → List Block → Addr → Type 0
+abbrev pub Remains : PrefixData → List PrefixData → Addr → Type 0
 Remains p excepts a = Holds p a × All (λ e. ¬ Holds e a) excepts
 
 -- the block one bit shorter round this one
-abbrev pub shorter : Block → Block
+abbrev pub shorter : PrefixData → PrefixData
 shorter b = record { base = cleared b.base (b.len - 1); len = b.len - 1 }
 
 -- the block one bit shorter has an address outside the set
-pub record IsLargest (p : Block) (excepts : List Block) (b : Block) : Type 0 where
+pub record IsLargest (p : PrefixData) (excepts : List PrefixData) (b : PrefixData) : Type 0 where
   pub address : Addr
   pub small : number_of address < 2 ^ width_of address
   pub held : Holds (shorter b) address
@@ -63,13 +63,13 @@ pub record IsLargest (p : Block) (excepts : List Block) (b : Block) : Type 0 whe
 
 -- a maximal block of the addresses of a block without excepts: all its addresses remain, and it is the whole
 -- family or not all addresses of the block round it remain
-pub record IsMaximalBlock (p : Block) (excepts : List Block) (b : Block) : Type 0 where
+pub record IsMaximalBlock (p : PrefixData) (excepts : List PrefixData) (b : PrefixData) : Type 0 where
   pub form : IsBlock b.base b.len
   pub inside : (a : Addr) → Holds b a → Remains p excepts a
   pub largest : 0 < b.len → IsLargest p excepts b
 
 -- each address of the one is before each address of the other
-abbrev pub AddressesPrecede : Block → Block → Type 0
+abbrev pub AddressesPrecede : PrefixData → PrefixData → Type 0
 AddressesPrecede a b = (x y : Addr) → Holds a x → Holds b y → number_of x < number_of y
 
 -- ---- numbers: what both are made of
@@ -124,11 +124,11 @@ pub record IsPortSpan (s : Span) : Type 0 where
   pub fits : s.index * 2 ^ s.height < 2 ^ 16
 
 -- the numbers of a block's addresses
-abbrev pub span_of : Block → Span
+abbrev pub span_of : PrefixData → Span
 span_of b = record { height = free_bits b; index = number_of b.base / 2 ^ free_bits b }
 
 -- the block with these numbers in the address's family
-abbrev pub block_at : Addr → Span → Block
+abbrev pub block_at : Addr → Span → PrefixData
 block_at a s = record { base = with_number a (s.index * 2 ^ s.height); len = width_of a - s.height }
 
 -- a span of numbers of so many bits

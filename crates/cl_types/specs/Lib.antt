@@ -8,6 +8,7 @@ pub mod Causes
 pub mod Dir
 pub mod Equality
 pub mod EqualityLaws
+pub mod First
 pub mod Judgement
 pub mod ListLaws
 pub mod OrderLaws

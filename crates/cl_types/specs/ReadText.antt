@@ -12,7 +12,7 @@ use Rattle.cl_types.specs.declared.reading.Family.{Family}
 use Rattle.cl_types.specs.declared.reading.Family.TheVariants.{Dotted, Colons}
 use Rattle.cl_types.specs.Addr.{width_of}
 use Rattle.cl_types.specs.Bytes.{colon, slash}
-use Rattle.cl_types.specs.Prefix.{Block, cleared}
+use Rattle.cl_types.specs.Prefix.{PrefixData, cleared}
 use Rattle.cl_types.specs.Reading.{separator_of, base_of}
 use Rattle.cl_types.specs.Text.{text_eq}
 
@@ -80,16 +80,16 @@ read_address text =
     (or_first (option_map V6 (read_number Colons 8 text)) (option_map V6 (read_shortened text)))
 
 -- the block of an address and a length that its family has, the bits past the length cleared
-abbrev pub block_of_parts : List ℕ → List ℕ → Option Block
+abbrev pub block_of_parts : List ℕ → List ℕ → Option PrefixData
 block_of_parts address len =
     option_and_then
     (λ a. option_and_then (λ n. where_true (nat_le n (width_of a)) (record { base = cleared a n; len = n })) (read_octet len))
     (read_address address)
 
-abbrev pub block_of_halves : List (List ℕ) → Option Block
+abbrev pub block_of_halves : List (List ℕ) → Option PrefixData
 block_of_halves (address ∷ len ∷ []) = block_of_parts address len
 block_of_halves _ = None
 
 -- an address, `/` and a length
-unfoldable pub read_block : List ℕ → Option Block
+unfoldable pub read_block : List ℕ → Option PrefixData
 read_block text = block_of_halves (slice_split (λ b. b == slash) text)

@@ -11,7 +11,7 @@ use Rattle.cl_types.specs.declared.reading.Parts.{Parts}
 use Rattle.cl_types.specs.declared.reading.Family.TheVariants.{Dotted, Colons}
 use Rattle.cl_types.specs.Addr.{width_of}
 use Rattle.cl_types.specs.Bytes.{dot, colon}
-use Rattle.cl_types.specs.Prefix.{Block, cleared}
+use Rattle.cl_types.specs.Prefix.{PrefixData, cleared}
 
 -- a dot or a colon
 abbrev pub separator_of : Family → ℕ
@@ -78,7 +78,7 @@ IsAddress text (V4 n) = IsDotted text n
 IsAddress text (V6 n) = IsFull text n ⊎ IsShortened text n
 
 -- an address, `/` and a length; bits past the length are cleared
-pub record IsPrefix (text : List ℕ) (block : Block) : Type 0 where
+pub record IsPrefix (text : List ℕ) (block : PrefixData) : Type 0 where
   pub address : Addr
   pub address_text : List ℕ
   pub whole : text ≡ address_text ++ (codes "/" ++ decimal block.len)

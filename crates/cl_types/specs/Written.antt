@@ -16,7 +16,7 @@ use Rattle.cl_types.specs.declared.verdict.Verdict.{Verdict}
 use Rattle.cl_types.specs.declared.verdict.Verdict.TheVariants.{Allow, Drop, Reject}
 use Rattle.cl_types.specs.declared.writing.ZeroRun.{ZeroRun}
 use Rattle.cl_types.specs.Bytes.{dot, colon}
-use Rattle.cl_types.specs.Prefix.{Block}
+use Rattle.cl_types.specs.Prefix.{PrefixData}
 use Rattle.cl_types.specs.PolicyName.{PolicyName, IsPolicyName}
 use Rattle.cl_types.specs.Judgement.{Reason, by_rule, by_isolation, by_default, Judgement}
 
@@ -68,7 +68,7 @@ address_text (V4 n) = dotted n
 address_text (V6 n) = compressed (groups_of n)
 
 -- address, `/` and length
-abbrev pub prefix_text : Block → List ℕ
+abbrev pub prefix_text : PrefixData → List ℕ
 prefix_text b = address_text b.base ++ (codes "/" ++ decimal b.len)
 
 -- namespace, `/` and name

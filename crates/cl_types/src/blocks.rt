@@ -3,7 +3,7 @@ ghost use Rattle.std.specs.List.{Any, AllPairs, Contains};
 ghost use Rattle.cl_types.specs.declared.addr.Addr.{Addr};
 ghost use Rattle.cl_types.specs.declared.service.Masked.{Masked};
 ghost use Rattle.cl_types.specs.Addr.{width_of, number_of, with_number};
-ghost use Rattle.cl_types.specs.Prefix.{Block, Holds};
+ghost use Rattle.cl_types.specs.Prefix.{PrefixData, Holds};
 ghost use Rattle.cl_types.specs.Blocks.{Matches, IsMaximalPorts, PortsPrecede, Remains, IsMaximalBlock, AddressesPrecede, Within, wider, Overshoots, StandsAs, IsSubspan, AppendsSpansOf, mask_of, IsPortSpan, span_of, block_at, FitsWidth};
 
 use crate::addr::Addr;
@@ -271,7 +271,7 @@ pub fn blocks_without(
     excepts: &List<Prefix>,
 ) -> Result<List<Prefix>, NoMemory>
     ensures exact { IfOk result (λ blocks. (a : Addr) → (Remains p excepts.now a ↔ Any (λ b. Holds b a) blocks)) }
-    ensures maximal { IfOk result (λ blocks. (b : Block) → (IsMaximalBlock p excepts.now b ↔ Contains blocks b)) }
+    ensures maximal { IfOk result (λ blocks. (b : PrefixData) → (IsMaximalBlock p excepts.now b ↔ Contains blocks b)) }
     ensures ascending { IfOk result (λ blocks. AllPairs AddressesPrecede blocks) }
 {
     let mut spans = Vec::new(alloc);

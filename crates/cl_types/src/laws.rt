@@ -12,7 +12,7 @@ ghost use Rattle.cl_types.specs.PolicyName.{PolicyName, IsPolicyName, HasNoSlash
 ghost use Rattle.cl_types.specs.RuleOrder.{pod_order, policy_order, rule_order};
 ghost use Rattle.cl_types.specs.Reading.{IsAddress, IsPrefix};
 ghost use Rattle.cl_types.specs.ReadText.{read_address, read_block};
-ghost use Rattle.cl_types.specs.Prefix.{Block, IsBlock};
+ghost use Rattle.cl_types.specs.Prefix.{PrefixData, IsBlock};
 ghost use Rattle.cl_types.specs.Written.{longest_run, IsZeroRun, address_text, prefix_text, policy_text, rule_text, pod_text, HasName};
 
 /// Only equal addresses, pods, policies and rules stand at one place of their order.
@@ -35,13 +35,13 @@ pub fn orders_are_total()
 /// A text is a form of one address at most, and of one prefix at most.
 pub fn texts_have_one_reading()
     ensures addresses { (text : List ℕ) (a b : Addr) → IsAddress text a → IsAddress text b → a ≡ b }
-    ensures prefixes { (text : List ℕ) (p q : Block) → IsPrefix text p → IsPrefix text q → p ≡ q }
+    ensures prefixes { (text : List ℕ) (p q : PrefixData) → IsPrefix text p → IsPrefix text q → p ≡ q }
 {}
 
 /// The functions that read an address and a block of their texts agree with the grammar.
 pub fn texts_are_read_as_functions()
     ensures addresses { (text : List ℕ) (a : Addr) → ((read_address text ≡ Some a) ↔ IsAddress text a) }
-    ensures blocks { (text : List ℕ) (b : Block) → ((read_block text ≡ Some b) ↔ IsPrefix text b) }
+    ensures blocks { (text : List ℕ) (b : PrefixData) → ((read_block text ≡ Some b) ↔ IsPrefix text b) }
 {}
 
 /// Different policies have different texts. So have rules that differ in policy, direction or index, and
@@ -58,7 +58,7 @@ pub fn texts_tell_names_apart()
 /// The text that is written for an address or a prefix is read as that address or prefix.
 pub fn written_is_read()
     ensures addresses { (a : Addr) → number_of a < 2 ^ width_of a → IsAddress (address_text a) a }
-    ensures prefixes { (b : Block) → number_of b.base < 2 ^ width_of b.base → IsBlock b.base b.len
+    ensures prefixes { (b : PrefixData) → number_of b.base < 2 ^ width_of b.base → IsBlock b.base b.len
         → IsPrefix (prefix_text b) b }
 {}
 

@@ -17,9 +17,9 @@ pub struct Prefix {
 
 impl Model for Prefix {
     ghost use Rattle.std.specs.Prelude.{◌≡◌};
-    ghost use Rattle.cl_types.specs.Prefix.{Block, IsBlock};
+    ghost use Rattle.cl_types.specs.Prefix.{PrefixData, IsBlock};
 
-    ghost Value = { Block };
+    ghost Value = { PrefixData };
 
     ghost view = { λ p. record { base = p.base; len = p.len } };
 

@@ -2,8 +2,9 @@ ghost use Rattle.std.specs.Prelude.{◌≡◌, ◌≢◌, ℕ, ◌+◌, ◌-◌,
 ghost use Rattle.std.specs.Int.Digits.{number_from_digits};
 ghost use Rattle.std.specs.Str.Parse.{AllDigits, digits_value};
 ghost use Rattle.cl_types.specs.declared.addr.Addr.{Addr};
-ghost use Rattle.cl_types.specs.Prefix.{Block, cleared};
+ghost use Rattle.cl_types.specs.Prefix.{PrefixData, cleared};
 ghost use Rattle.cl_types.specs.Addr.{width_of};
+ghost use Rattle.cl_types.specs.Bytes.{colon};
 ghost use Rattle.cl_types.specs.Reading.{separator_of, base_of, IsHexGroup, IsOctet, IsPart, IsParts, IsNumber, IsFull, IsShortened, IsDotted, IsAddress, IsPrefix, Lacks, HasNoGap, Continues};
 
 use crate::addr::Addr;
@@ -48,7 +49,7 @@ fn cut(text: &[u8], byte: u8) -> Option<(&[u8], &[u8])>
 // The text before the first two colons, and the text after them.
 fn cut_gap(text: &[u8]) -> Option<(&[u8], &[u8])>
     ensures found { IfSome result (λ parts. text.now ≡ parts.0.now ++ (codes "::" ++ parts.1.now)) }
-    ensures first { IfSome result (λ parts. HasNoGap (parts.0.now ++ (58 ∷ []))) }
+    ensures first { IfSome result (λ parts. HasNoGap (parts.0.now ++ (colon ∷ []))) }
     ensures none { IfNone result (HasNoGap text.now) }
 {
     for i in 1..text.len() {
@@ -276,7 +277,7 @@ fn clear_past(a: Addr, len: u8) -> Option<Prefix>
 
 fn prefix_of(text: &[u8]) -> Option<Prefix>
     ensures found { IfSome result (λ p. IsPrefix text.now p) }
-    ensures none { IfNone result ((p : Block) → IsPrefix text.now p → ⊥) }
+    ensures none { IfNone result ((p : PrefixData) → IsPrefix text.now p → ⊥) }
 {
     let (address, len) = cut(text, b'/')?;
     let a = address_of(address)?;
@@ -287,7 +288,7 @@ fn prefix_of(text: &[u8]) -> Option<Prefix>
 /// The block that the text is a form of, else `BadPrefix`.
 pub fn read_prefix(text: &[u8]) -> Result<Prefix, BadPrefix>
     ensures found { IfOk result (λ p. IsPrefix text.now p) }
-    ensures bad { IfErr result (λ _. (p : Block) → IsPrefix text.now p → ⊥) }
+    ensures bad { IfErr result (λ _. (p : PrefixData) → IsPrefix text.now p → ⊥) }
 {
     prefix_of(text).ok_or(BadPrefix)
 }

@@ -3,12 +3,12 @@ use Rattle.std.specs.Prelude.{ℕ, ◌≤◌, List, Option}
 use Rattle.std.specs.Option.{ForSome}
 use Rattle.cl_types.specs.declared.addr.Addr.{Addr}
 use Rattle.cl_types.specs.declared.addr.Addr.TheVariants.{V4, V6}
-use Rattle.cl_types.specs.Prefix.{Block}
+use Rattle.cl_types.specs.Prefix.{PrefixData}
 
 pub record NodeData : Type 0 where
   pub name : List ℕ
-  pub cidr : Block
-  pub cidr6 : Option Block
+  pub cidr : PrefixData
+  pub cidr6 : Option PrefixData
 
 -- a block of IPv4 that a node may have
 abbrev pub IsNodeBlock : Addr → ℕ → Type 0
@@ -20,6 +20,6 @@ abbrev pub IsNodeBlock6 : Addr → ℕ → Type 0
 IsNodeBlock6 (V4 n) len = ⊥
 IsNodeBlock6 (V6 n) len = (16 ≤ len) × (len ≤ 126)
 
-pub record IsNode (cidr : Block) (cidr6 : Option Block) : Type 0 where
+pub record IsNode (cidr : PrefixData) (cidr6 : Option PrefixData) : Type 0 where
   pub four : IsNodeBlock cidr.base cidr.len
-  pub six : ForSome cidr6 (λ (b : Block). IsNodeBlock6 b.base b.len)
+  pub six : ForSome cidr6 (λ (b : PrefixData). IsNodeBlock6 b.base b.len)

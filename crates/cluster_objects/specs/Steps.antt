@@ -1,7 +1,7 @@
 -- The three steps in which a verdict is found, over any rules with a key and an action (Antrea's tiers, with
 -- Baseline after the Kubernetes policies).
 use Rattle.std.specs.Prelude.{ℕ, List, [], ◌∷◌, Bool, true, false, not, ◌&&◌, ◌==◌, Option, Some, None, if◌then◌else◌}
-use Rattle.std.specs.Ordering.{is_gt}
+use Rattle.std.specs.declared.cmp.Ordering.{Ordering}
 use Rattle.cl_types.specs.declared.keys.PolicyKind.{PolicyKind}
 use Rattle.cl_types.specs.declared.keys.PolicyKind.TheVariants.{Kube}
 use Rattle.cl_types.specs.declared.keys.RuleKey.{RuleKey}
@@ -11,6 +11,7 @@ use Rattle.cl_types.specs.declared.verdict.Verdict.{Verdict}
 use Rattle.cl_types.specs.declared.verdict.Verdict.TheVariants as verdict
 use Rattle.cluster_objects.specs.declared.steps.Stage.{Stage}
 use Rattle.cluster_objects.specs.declared.steps.Stage.TheVariants.{Native, Kubernetes, Baseline}
+use Rattle.cl_types.specs.First.{earlier as earlier_by, first as first_by}
 use Rattle.cl_types.specs.Judgement.{Judgement, by_rule, by_isolation, by_default}
 use Rattle.cl_types.specs.RuleOrder.{rule_order}
 
@@ -28,15 +29,17 @@ in_stage Native kind key = not (is_kube kind) && not (key.tier == baseline_tier)
 in_stage Kubernetes kind key = is_kube kind
 in_stage Baseline kind key = not (is_kube kind) && (key.tier == baseline_tier)
 
+-- the rule order, of rules that have a key
+abbrev pub by_key : {R : Type 0} → (R → RuleKey) → R → R → Ordering
+by_key key r s = rule_order (key r) (key s)
+
 -- of two rules the one that is looked at first
 abbrev pub earlier : {R : Type 0} → (R → RuleKey) → R → Option R → R
-earlier key r None = r
-earlier key r (Some s) = if is_gt (rule_order (key r) (key s)) then s else r
+earlier key = earlier_by (by_key key)
 
 -- the first of some rules in the rule order
 abbrev pub first : {R : Type 0} → (R → RuleKey) → List R → Option R
-first key [] = None
-first key (r ∷ rs) = Some (earlier key r (first key rs))
+first key = first_by (by_key key)
 
 abbrev pub judged : Verdict → RuleKey → Judgement
 judged v key = record { verdict = v; by = by_rule key }

@@ -7,7 +7,7 @@ use Rattle.std.proofs.lemmas.Bool.{eqb-true}
 use borrow.Author.Tests.{eq-eqb}
 use Rattle.std.proofs.lemmas.List.Folds.{list_any-append}
 use Rattle.cl_types.specs.declared.addr.Addr.{Addr}
-use Rattle.cl_types.specs.Prefix.{Block, holds}
+use Rattle.cl_types.specs.Prefix.{PrefixData, holds}
 use Rattle.cl_types.specs.Addr.{width_of, number_of}
 use Rattle.flow_pipeline.specs.declared.class.Class.TheVariants.{Source, Destination, Conj, Rest}
 use Rattle.flow_pipeline.specs.declared.flow.Clause.{Clause}
@@ -112,12 +112,12 @@ bits_same t u x y len same width bits =
     ∙ ap (λ n. made (table_place u) (width_of y) len n) (bits ∙ ap (λ w. number_of y / 2 ^ (w - len)) width)
 
 -- what a block has in common with an address that it holds
-held_bits : (t u : Table) (b : Block) (x : Addr) → table_place t ≡ table_place u → holds b x ≡ true → bits_of t b.base b.len ≡ bits_of u x b.len
+held_bits : (t u : Table) (b : PrefixData) (x : Addr) → table_place t ≡ table_place u → holds b x ≡ true → bits_of t b.base b.len ≡ bits_of u x b.len
 held_bits t u b x same h =
     let parts = both _ _ h in
     bits_same t u b.base x b.len same (sym (eqb-true _ _ parts.0)) (sym (eqb-true _ _ parts.1))
 
-block_shared : (a : Arrival) (t : Table) (src dst : Option Block) → table_place t ≡ table_place a.table → if_given src (λ b. holds b a.packet.src) ≡ true → if_given dst (λ b. holds b a.packet.dst) ≡ true → block_class t src dst ≡ class_at a (shape_of src dst)
+block_shared : (a : Arrival) (t : Table) (src dst : Option PrefixData) → table_place t ≡ table_place a.table → if_given src (λ b. holds b a.packet.src) ≡ true → if_given dst (λ b. holds b a.packet.dst) ≡ true → block_class t src dst ≡ class_at a (shape_of src dst)
 block_shared a t (Some b) dst same h k = ap Source (held_bits t a.table b a.packet.src same h)
 block_shared a t None (Some b) same h k = ap Destination (held_bits t a.table b a.packet.dst same k)
 block_shared a t None None same h k = ap Rest same

@@ -3,7 +3,7 @@
 use Rattle.std.specs.Prelude.{ℕ, ◌-◌, ◌/◌, ◌^◌, ◌==◌, Bool, true, false, Option, Some, None}
 use Rattle.cl_types.specs.declared.addr.Addr.{Addr}
 use Rattle.cl_types.specs.Addr.{number_of, width_of}
-use Rattle.cl_types.specs.Prefix.{Block}
+use Rattle.cl_types.specs.Prefix.{PrefixData}
 use Rattle.flow_pipeline.specs.declared.class.Bits.{Bits}
 use Rattle.flow_pipeline.specs.declared.class.Class.{Class}
 use Rattle.flow_pipeline.specs.declared.class.Class.TheVariants.{Source, Destination, Conj, Rest}
@@ -22,7 +22,7 @@ abbrev pub bits_of : Table → Addr → ℕ → Bits
 bits_of table a len = record { table = table_place table; width = width_of a; len = len; bits = first_bits a len }
 
 -- the class of a source, else of a destination
-abbrev pub block_class : Table → Option Block → Option Block → Class
+abbrev pub block_class : Table → Option PrefixData → Option PrefixData → Class
 block_class table (Some b) dst = Source (bits_of table b.base b.len)
 block_class table None (Some b) = Destination (bits_of table b.base b.len)
 block_class table None None = Rest (table_place table)
@@ -47,7 +47,7 @@ shape_eq shape.Rest shape.Rest = true
 shape_eq _ _ = false
 
 -- how many bits of the source tell a flow from others, else of the destination
-abbrev pub shape_of : Option Block → Option Block → Shape
+abbrev pub shape_of : Option PrefixData → Option PrefixData → Shape
 shape_of (Some b) dst = shape.Source b.len
 shape_of None (Some b) = shape.Destination b.len
 shape_of None None = shape.Rest

@@ -12,7 +12,7 @@ use Rattle.cl_types.specs.declared.service.Proto.TheVariants.{Tcp, Udp, Sctp, Ic
 use Rattle.cl_types.specs.declared.verdict.Action.{Action}
 use Rattle.cl_types.specs.declared.verdict.Action.TheVariants as action
 use Rattle.cl_types.specs.Addr.{width_of}
-use Rattle.cl_types.specs.Prefix.{Block}
+use Rattle.cl_types.specs.Prefix.{PrefixData}
 use Rattle.cl_types.specs.Written.{address_text, prefix_text, rule_text}
 use Rattle.flow_pipeline.specs.declared.flow.Clause.{Clause}
 use Rattle.flow_pipeline.specs.declared.flow.Does.{Does}
@@ -55,7 +55,7 @@ destination_word (V4 n) = codes "nw_dst="
 destination_word (V6 n) = codes "ipv6_dst="
 
 -- the address where the block has one alone, else the prefix
-abbrev pub block_text : Block → List ℕ
+abbrev pub block_text : PrefixData → List ℕ
 block_text b = if b.len == width_of b.base then address_text b.base else prefix_text b
 
 abbrev pub protocol_text : Proto → List ℕ
@@ -81,11 +81,11 @@ abbrev pub conj_text : ℕ → List ℕ
 conj_text id = codes "conj_id=" ++ decimal id
 
 -- `nw_src=10.10.1.0/24`
-abbrev pub source_text : Block → List ℕ
+abbrev pub source_text : PrefixData → List ℕ
 source_text b = source_word b.base ++ block_text b
 
 -- `nw_dst=10.10.1.5`
-abbrev pub destination_text : Block → List ℕ
+abbrev pub destination_text : PrefixData → List ℕ
 destination_text b = destination_word b.base ++ block_text b
 
 -- `tun_dst=172.16.0.9`

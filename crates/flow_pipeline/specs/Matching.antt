@@ -9,13 +9,13 @@ use Rattle.cl_types.specs.declared.service.Proto.{Proto}
 use Rattle.cl_types.specs.declared.question.Packet.{Packet}
 use Rattle.cl_types.specs.Addr.{addr_eq}
 use Rattle.cl_types.specs.Proto.{proto_eq}
-use Rattle.cl_types.specs.Prefix.{Block, holds}
+use Rattle.cl_types.specs.Prefix.{PrefixData, holds}
 
 -- the fields of a flow as plain data
 pub record MatchFields : Type 0 where
   pub in_port : Option ℕ
-  pub src : Option Block
-  pub dst : Option Block
+  pub src : Option PrefixData
+  pub dst : Option PrefixData
   pub proto : Option Proto
   pub dport : Option Masked
   pub tunnel : Option Addr

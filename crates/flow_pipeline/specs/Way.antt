@@ -15,7 +15,7 @@ use Rattle.cl_types.specs.declared.verdict.Verdict.TheVariants as verdict
 use Rattle.cl_types.specs.Addr.{number_of, with_number}
 use Rattle.cl_types.specs.Addr.{addr_eq}
 use Rattle.cl_types.specs.Judgement.{Judgement}
-use Rattle.cl_types.specs.Prefix.{Block, holds}
+use Rattle.cl_types.specs.Prefix.{PrefixData, holds}
 
 -- ---- values
 
@@ -60,11 +60,11 @@ pub record PodPort : Type 0 where
 
 pub record OtherNode : Type 0 where
   pub name : List ℕ
-  pub blocks : List Block
+  pub blocks : List PrefixData
 
 -- the pod CIDRs of the node and of the other nodes, and the ports that pods have here
 pub record NodeFacts : Type 0 where
-  pub own : List Block
+  pub own : List PrefixData
   pub others : List OtherNode
   pub ports : List PodPort
 
@@ -76,13 +76,13 @@ abbrev pub gateway_port : ℕ
 gateway_port = 2
 
 -- a block's gateway address is the one after its first
-abbrev pub gateway_of : Block → Addr
+abbrev pub gateway_of : PrefixData → Addr
 gateway_of b = with_number b.base (number_of b.base + 1)
 
 abbrev pub is_gateway : NodeFacts → Addr → Bool
 is_gateway n a = list_any (λ b. addr_eq (gateway_of b) a) n.own
 
-abbrev pub is_within : List Block → Addr → Bool
+abbrev pub is_within : List PrefixData → Addr → Bool
 is_within blocks a = list_any (λ b. holds b a) blocks
 
 abbrev pub has_address : Addr → PodPort → Bool

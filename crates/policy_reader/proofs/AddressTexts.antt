@@ -3,7 +3,7 @@ use Rattle.std.proofs.Common.{◌≡◌, ℕ, List, true, Option, Some, None, if
 use Rattle.std.proofs.lemmas.Bool.Decides.{nat_tests}
 use Rattle.cl_types.specs.declared.addr.Addr.{Addr}
 use Rattle.cl_types.specs.declared.addr.Addr.TheVariants.{V4, V6}
-use Rattle.cl_types.specs.Prefix.{Block}
+use Rattle.cl_types.specs.Prefix.{PrefixData}
 use Rattle.cl_types.specs.ReadText.{read_address, read_block}
 use Rattle.cluster_objects.specs.Node.{IsNode, IsNodeBlock}
 use Rattle.policy_reader.specs.Texts.{is_node_length, is_four, where_four, address_of_text, block_of_text}
@@ -20,24 +20,24 @@ address_read text o e = ap (where_four (λ a. a)) (sym e)
 pub six_read : (text : List ℕ) {a : Addr} {n : ℕ} → a ≡ V6 n → read_address text ≡ Some a → None ≡ address_of_text text
 six_read text {a = a} six e = sym (ap (λ x. where_four (λ b. b) (Some x)) six) ∙ address_read text (Some a) e
 
-pub block_read : (text : List ℕ) (o : Option Block) → read_block text ≡ o → where_four (λ (b : Block). b.base) o ≡ block_of_text text
+pub block_read : (text : List ℕ) (o : Option PrefixData) → read_block text ≡ o → where_four (λ (b : PrefixData). b.base) o ≡ block_of_text text
 unfolding block_of_text
-block_read text o e = ap (where_four (λ (b : Block). b.base)) (sym e)
+block_read text o e = ap (where_four (λ (b : PrefixData). b.base)) (sym e)
 
-pub base_decides : (b : Block) (a : Addr) → b.base ≡ a → (if is_four a then Some b else None) ≡ where_four (λ (c : Block). c.base) (Some b)
+pub base_decides : (b : PrefixData) (a : Addr) → b.base ≡ a → (if is_four a then Some b else None) ≡ where_four (λ (c : PrefixData). c.base) (Some b)
 base_decides b a e = ap (λ x. if is_four x then Some b else None) (sym e)
 
 -- a block of IPv4 has an IPv4 base
-block_is_four : (o : Option Block) (p : Block) → where_four (λ (b : Block). b.base) o ≡ Some p → (n : ℕ) × (p.base ≡ V4 n)
+block_is_four : (o : Option PrefixData) (p : PrefixData) → where_four (λ (b : PrefixData). b.base) o ≡ Some p → (n : ℕ) × (p.base ≡ V4 n)
 block_is_four None p h = cc
 block_is_four (Some b) p h = by_family b.base refl h
   where
     by_family : (a : Addr) → b.base ≡ a → (if is_four a then Some b else None) ≡ Some p → (n : ℕ) × (p.base ≡ V4 n)
-    by_family (V4 n) e h = let one : b ≡ p = cc in (n, ap (λ (c : Block). c.base) (sym one) ∙ e)
+    by_family (V4 n) e h = let one : b ≡ p = cc in (n, ap (λ (c : PrefixData). c.base) (sym one) ∙ e)
     by_family (V6 n) e h = cc
 
 -- a block of IPv4 of such a length is a node's
-pub node_of_four : (text : List ℕ) (p : Block) → block_of_text text ≡ Some p → true ≡ is_node_length p → IsNode p None
+pub node_of_four : (text : List ℕ) (p : PrefixData) → block_of_text text ≡ Some p → true ≡ is_node_length p → IsNode p None
 unfolding block_of_text
 node_of_four text p is long =
     let four = block_is_four (read_block text) p is in

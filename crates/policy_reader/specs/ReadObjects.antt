@@ -15,7 +15,7 @@ use Rattle.cl_types.specs.declared.service.Proto.TheVariants.{Tcp}
 use Rattle.cl_types.specs.Ascending.{Ascends}
 use Rattle.cl_types.specs.Text.{text_eq}
 use Rattle.cl_types.specs.PolicyName.{PolicyName}
-use Rattle.cl_types.specs.Prefix.{Block}
+use Rattle.cl_types.specs.Prefix.{PrefixData}
 use Rattle.cl_types.specs.Service.{PortRange}
 use Rattle.label_select.specs.declared.group.Scope.TheVariants.{Namespace}
 use Rattle.label_select.specs.declared.labels.Label.{Label}
@@ -147,7 +147,7 @@ cidr_texts spec = do
   Ok (option_to_list one ++ more)
 
 -- the block of a node, which is the first text without a colon
-unfoldable pub node_block : List (List ℕ) → Result Block ReadRefusal
+unfoldable pub node_block : List (List ℕ) → Result PrefixData ReadRefusal
 node_block texts = do
   text ← needed (find has_no_colon texts)
   block ← needed (block_of_text text)

@@ -7,7 +7,7 @@ use Rattle.cl_types.specs.declared.service.Proto.TheVariants.{Tcp, Udp, Sctp, Ic
 use Rattle.cl_types.specs.declared.keys.Dir.{Dir}
 use Rattle.cl_types.specs.declared.keys.Dir.TheVariants.{Ingress, Egress}
 use Rattle.cl_types.specs.Text.{text_eq}
-use Rattle.cl_types.specs.Prefix.{Block}
+use Rattle.cl_types.specs.Prefix.{PrefixData}
 use Rattle.cl_types.specs.ReadText.{read_address, read_block}
 
 abbrev pub is_four : Addr → Bool
@@ -24,11 +24,11 @@ unfoldable pub address_of_text : List ℕ → Option Addr
 address_of_text text = where_four (λ a. a) (read_address text)
 
 -- the IPv4 block that the text is a form of
-unfoldable pub block_of_text : List ℕ → Option Block
-block_of_text text = where_four (λ (b : Block). b.base) (read_block text)
+unfoldable pub block_of_text : List ℕ → Option PrefixData
+block_of_text text = where_four (λ (b : PrefixData). b.base) (read_block text)
 
 -- a node's block has a length of 8 to 30
-abbrev pub is_node_length : Block → Bool
+abbrev pub is_node_length : PrefixData → Bool
 is_node_length b = nat_le 8 b.len && nat_le b.len 30
 
 -- the protocol that a policy's port entry names

@@ -2,7 +2,7 @@ use Rattle.std.proofs.Common.{◌≡◌, List, map, ◌↔◌, sym, ap, subst}
 use Rattle.std.specs.List.{All, Any, AllPairs, Contains}
 use Rattle.std.specs.Result.{IfOk}
 use Rattle.cl_types.specs.declared.addr.Addr.{Addr}
-use Rattle.cl_types.specs.Prefix.{Block, Holds}
+use Rattle.cl_types.specs.Prefix.{PrefixData, Holds}
 use Rattle.cl_types.proofs.Mapped.{made}
 use Rattle.cl_types.specs.declared.blocks.Span.{Span}
 use Rattle.cl_types.specs.Addr.{width_of, with_number}
@@ -34,8 +34,8 @@ returns-clause-exact c =
     let whole = whole_fits p c.whole_of.result c.whole_of.ensures.value c.whole_of.ensures.low c.whole_of.ensures.fits in
     let are = spans_of p es c.whole_of.result c.new-spans.result.items c.add_spans.new.spans.items spans c.whole_of.ensures.value c.new-spans.ensures.items c.in_ok-add_spans.ensures c.as_slice-2.ensures.value in
     let blocks = subst (λ (a : Addr). IfOk c.prefixes.result (λ x. x ≡ map (block_at a) spans)) (ap (λ b. b.base) c.p.view_is) c.prefixes.ensures in
-    subst (λ (xs : List Block). IfOk c.prefixes.result (λ blocks. (a : Addr) → Remains p xs a ↔ Any (λ b. Holds b a) blocks)) c.as_slice.ensures
-    (made c.prefixes.result (map (block_at p.base) spans) (λ (blocks : List Block). (a : Addr) → Remains p es a ↔ Any (λ b. Holds b a) blocks) (exact_blocks p es spans whole are) blocks)
+    subst (λ (xs : List PrefixData). IfOk c.prefixes.result (λ blocks. (a : Addr) → Remains p xs a ↔ Any (λ b. Holds b a) blocks)) c.as_slice.ensures
+    (made c.prefixes.result (map (block_at p.base) spans) (λ (blocks : List PrefixData). (a : Addr) → Remains p es a ↔ Any (λ b. Holds b a) blocks) (exact_blocks p es spans whole are) blocks)
 
 pub returns-clause-maximal : goal.returns-clause-maximal
 returns-clause-maximal c =
@@ -45,8 +45,8 @@ returns-clause-maximal c =
     let whole = whole_fits p c.whole_of.result c.whole_of.ensures.value c.whole_of.ensures.low c.whole_of.ensures.fits in
     let are = spans_of p es c.whole_of.result c.new-spans.result.items c.add_spans.new.spans.items spans c.whole_of.ensures.value c.new-spans.ensures.items c.in_ok-add_spans.ensures c.as_slice-2.ensures.value in
     let blocks = subst (λ (a : Addr). IfOk c.prefixes.result (λ x. x ≡ map (block_at a) spans)) (ap (λ b. b.base) c.p.view_is) c.prefixes.ensures in
-    subst (λ (xs : List Block). IfOk c.prefixes.result (λ blocks. (b : Block) → IsMaximalBlock p xs b ↔ Contains blocks b)) c.as_slice.ensures
-    (made c.prefixes.result (map (block_at p.base) spans) (λ (blocks : List Block). (b : Block) → IsMaximalBlock p es b ↔ Contains blocks b) (maximal_blocks p es spans whole are) blocks)
+    subst (λ (xs : List PrefixData). IfOk c.prefixes.result (λ blocks. (b : PrefixData) → IsMaximalBlock p xs b ↔ Contains blocks b)) c.as_slice.ensures
+    (made c.prefixes.result (map (block_at p.base) spans) (λ (blocks : List PrefixData). (b : PrefixData) → IsMaximalBlock p es b ↔ Contains blocks b) (maximal_blocks p es spans whole are) blocks)
 
 pub returns-clause-ascending : goal.returns-clause-ascending
 returns-clause-ascending c =
