@@ -5,7 +5,7 @@ use Rattle.std.specs.declared.cmp.Ordering.TheVariants.{Less, Greater}
 use Rattle.std.specs.Cmp.{IsTotalOrder}
 use Rattle.std.specs.List.{filter}
 use Rattle.std.specs.Ordering.{is_gt, ordering_reverse}
-use Rattle.flow_pipeline.specs.Lookup.{earlier, first}
+use Rattle.cl_types.specs.First.{earlier, first}
 
 module _ {T : Type 0} {order : T → T → Ordering} (o : IsTotalOrder order) (can : T → Bool) (d : T) where
   -- the item at i can be taken, and is before each that can: strictly before those that stand before it

@@ -9,12 +9,14 @@ use Rattle.std.proofs.lemmas.Bool.{eqb-true, lt-ltb}
 use Rattle.std.proofs.lemmas.Cmp.{on_total, then_total, back_total, nat_cmp_total}
 use Rattle.std.proofs.lemmas.Option.{slice_get-get_or, slice_get_within}
 use Rattle.cl_types.specs.declared.keys.RuleKey.{RuleKey}
+use Rattle.cl_types.specs.First.{earlier, first}
 use Rattle.cl_types.specs.RuleOrder.{rule_order_total}
 use Rattle.flow_pipeline.specs.declared.flow.Flow.{Flow}
 use Rattle.flow_pipeline.specs.declared.lookup.Arrival.{Arrival}
 use Rattle.flow_pipeline.specs.Index.{is_in}
-use Rattle.flow_pipeline.specs.Lookup.{can_be_hit, hit_order, hit_rank, hit_rule, rules_order, earlier, first, hit_of}
-use Rattle.flow_pipeline.specs.Search.{Found, found_order, considered, considered_flow, all_considered}
+use Rattle.flow_pipeline.specs.Lookup.{can_be_hit, hit_order, hit_rank, hit_rule, rules_order, hit_of}
+use Rattle.flow_pipeline.specs.declared.index.Index.{Index}
+use Rattle.flow_pipeline.specs.Search.{Found, found_order, considered, considered_flow, all_considered, does_places, outranks, visited, visited_flow, all_visited}
 use Rattle.flow_pipeline.proofs.Best.{IsBest, best_is_first, none_able}
 
 -- ---- the orders are total
@@ -218,20 +220,96 @@ module _ (flows : List Flow) (a : Arrival) where
   all_considered-append best [] qs = refl
   all_considered-append best (p ∷ ps) qs = all_considered-append (considered flows a best p) ps qs
 
-  -- where each flow that can be hit is considered, the best is the one that is hit
-  module _ (ps : List ℕ) (all : (p : ℕ) (f : Flow) → slice_get flows p ≡ Some f → can_be_hit flows a f ≡ true → is_in p ps ≡ true) where
-    leading : (p : ℕ) (f : Flow) → slice_get flows p ≡ Some f → can_be_hit flows a f ≡ true → (best : Option Found) → all_considered flows a None ps ≡ best → Leads best (record { place = p; flow = f })
-    leading p f is on best e = subst (λ b. Leads b (record { place = p; flow = f })) e (all_leads None ps p f (all p f is on) is on)
+  -- what is no worse than each flow that can be hit, and can be hit itself, is the one that is hit
+  module _ (best : Option Found) (leads : (p : ℕ) (f : Flow) → slice_get flows p ≡ Some f → can_be_hit flows a f ≡ true → Leads best (record { place = p; flow = f })) where
+    none_hit : best ≡ None → hit_of flows a ≡ None
+    none_hit e = none_first (can_be_hit flows a) flows (λ p f is. unable (can_be_hit flows a f) (λ on. subst (λ b. Leads b (record { place = p; flow = f })) e (leads p f is on)))
 
-    none_hit : all_considered flows a None ps ≡ None → hit_of flows a ≡ None
-    none_hit e = none_first (can_be_hit flows a) flows (λ p f is. unable (can_be_hit flows a f) (λ on. leading p f is on None e))
+    some_hit : (h : Found) → best ≡ Some h → IsHit h → hit_of flows a ≡ Some h.flow
+    some_hit h e hit = some_first (can_be_hit flows a) flows h hit.is hit.able (λ p f is on. subst (λ b. Leads b (record { place = p; flow = f })) e (leads p f is on))
 
-    some_hit : (h : Found) → all_considered flows a None ps ≡ Some h → IsHit h → hit_of flows a ≡ Some h.flow
-    some_hit h e hit = some_first (can_be_hit flows a) flows h hit.is hit.able (λ p f is on. leading p f is on (Some h) e)
-
-    pub hit_is_best : option_map (λ (h : Found). h.flow) (all_considered flows a None ps) ≡ hit_of flows a
-    hit_is_best = by_best (all_considered flows a None ps) refl (all_hit None ps tt)
+    pub hit_is_best : IfHit best → option_map (λ (h : Found). h.flow) best ≡ hit_of flows a
+    hit_is_best hit = by_best best refl hit
       where
-        by_best : (best : Option Found) → all_considered flows a None ps ≡ best → IfHit best → option_map (λ (h : Found). h.flow) best ≡ hit_of flows a
+        by_best : (b : Option Found) → best ≡ b → IfHit b → option_map (λ (h : Found). h.flow) b ≡ hit_of flows a
         by_best None e hit = sym (none_hit e)
         by_best (Some h) e hit = sym (some_hit h e hit)
+
+  -- ---- what is visited
+
+  module _ (index : Index) where
+    -- the best so far leads what it outranks
+    outranked : (best : Option Found) (g : Found) → outranks best g.flow.priority ≡ true → Leads best g
+    outranked None g h = cc
+    outranked (Some b) g h = rw h refl
+
+    visited_hit : (best : Option Found) (p : ℕ) → IfHit best → IfHit (visited index flows a best p)
+    visited_hit best p hit = by_flow (slice_get flows p)
+      where
+        by_rank : (f : Flow) (b : Bool) → IfHit (if b then best else all_considered flows a best (does_places index flows a p f f.does))
+        by_rank f true = hit
+        by_rank f false = all_hit best (does_places index flows a p f f.does) hit
+
+        by_flow : (o : Option Flow) → IfHit (visited_flow index flows a best p o)
+        by_flow None = hit
+        by_flow (Some f) = by_rank f (outranks best f.priority)
+
+    visited_keeps : (best : Option Found) (p : ℕ) (g : Found) → Leads best g → Leads (visited index flows a best p) g
+    visited_keeps best p g h = by_flow (slice_get flows p)
+      where
+        by_rank : (f : Flow) (b : Bool) → Leads (if b then best else all_considered flows a best (does_places index flows a p f f.does)) g
+        by_rank f true = h
+        by_rank f false = all_keeps best (does_places index flows a p f f.does) g h
+
+        by_flow : (o : Option Flow) → Leads (visited_flow index flows a best p o) g
+        by_flow None = h
+        by_flow (Some f) = by_rank f (outranks best f.priority)
+
+    -- the flow at p leads to what stands at q
+    pub record LeadsTo (p : ℕ) (q : ℕ) (g : Flow) : Type 0 where
+      pub flow : Flow
+      pub here : slice_get flows p ≡ Some flow
+      pub alike : flow.priority ≡ g.priority
+      pub among : is_in q (does_places index flows a p flow flow.does) ≡ true
+
+    visited_leads : (best : Option Found) (p q : ℕ) (g : Flow) → LeadsTo p q g → slice_get flows q ≡ Some g → can_be_hit flows a g ≡ true → Leads (visited index flows a best p) (record { place = q; flow = g })
+    visited_leads best p q g to is on = rw to.here (by_rank (outranks best to.flow.priority) refl)
+      where
+        by_rank : (b : Bool) → outranks best to.flow.priority ≡ b → Leads (if b then best else all_considered flows a best (does_places index flows a p to.flow to.flow.does)) (record { place = q; flow = g })
+        by_rank true over = outranked best (record { place = q; flow = g }) (subst (λ n. outranks best n ≡ true) to.alike over)
+        by_rank false under = all_leads best (does_places index flows a p to.flow to.flow.does) q g to.among is on
+
+    pub all_visited_hit : (best : Option Found) (ps : List ℕ) → IfHit best → IfHit (all_visited index flows a best ps)
+    all_visited_hit best [] hit = hit
+    all_visited_hit best (p ∷ ps) hit = all_visited_hit (visited index flows a best p) ps (visited_hit best p hit)
+
+    all_visited_keeps : (best : Option Found) (ps : List ℕ) (g : Found) → Leads best g → Leads (all_visited index flows a best ps) g
+    all_visited_keeps best [] g h = h
+    all_visited_keeps best (p ∷ ps) g h = all_visited_keeps (visited index flows a best p) ps g (visited_keeps best p g h)
+
+    pub all_visited_leads : (best : Option Found) (ps : List ℕ) (p q : ℕ) (g : Flow) → is_in p ps ≡ true → LeadsTo p q g → slice_get flows q ≡ Some g → can_be_hit flows a g ≡ true → Leads (all_visited index flows a best ps) (record { place = q; flow = g })
+    all_visited_leads best [] p q g h to is on = cc
+    all_visited_leads best (r ∷ ps) p q g h to is on = by_test (all_visited_leads (visited index flows a best r) ps p q g) (eqb r p) refl h
+      where
+        by_test : (is_in p ps ≡ true → LeadsTo p q g → slice_get flows q ≡ Some g → can_be_hit flows a g ≡ true → Leads (all_visited index flows a (visited index flows a best r) ps) (record { place = q; flow = g })) → (b : Bool) → eqb r p ≡ b → b || is_in p ps ≡ true → Leads (all_visited index flows a (visited index flows a best r) ps) (record { place = q; flow = g })
+        by_test later true same h =
+            let one : r ≡ p = eqb-true r p same in
+            all_visited_keeps (visited index flows a best r) ps (record { place = q; flow = g })
+            (subst (λ s. Leads (visited index flows a best s) (record { place = q; flow = g })) (sym one) (visited_leads best p q g to is on))
+        by_test later false other h = later h to is on
+
+    pub all_visited-append : (best : Option Found) (ps qs : List ℕ) → all_visited index flows a best (ps ++ qs) ≡ all_visited index flows a (all_visited index flows a best ps) qs
+    all_visited-append best [] qs = refl
+    all_visited-append best (p ∷ ps) qs = all_visited-append (visited index flows a best p) ps qs
+
+    -- where each flow that can be hit is led to from one of the places, the best is the one that is hit
+    pub record Reaches (ps : List ℕ) (q : ℕ) (g : Flow) : Type 0 where
+      pub from : ℕ
+      pub start : is_in from ps ≡ true
+      pub to : LeadsTo from q g
+
+    pub visited_is_best : (ps : List ℕ) → ((q : ℕ) (g : Flow) → slice_get flows q ≡ Some g → can_be_hit flows a g ≡ true → Reaches ps q g) → option_map (λ (h : Found). h.flow) (all_visited index flows a None ps) ≡ hit_of flows a
+    visited_is_best ps all =
+        hit_is_best (all_visited index flows a None ps)
+        (λ q g is on. let way = all q g is on in all_visited_leads None ps way.from q g way.start way.to is on)
+        (all_visited_hit None ps tt)

@@ -1,12 +1,13 @@
 -- Which flow of a table a packet hits (Open vSwitch: the flow of the greatest priority that matches;
 -- conjunctive matches as in ovs-fields(7), with three dimensions each).
-use Rattle.std.specs.Prelude.{ℕ, Bool, true, false, ◌&&◌, ◌==◌, not, List, [], ◌∷◌, Option, Some, None, filter, is_none, if◌then◌else◌}
+use Rattle.std.specs.Prelude.{ℕ, Bool, true, false, ◌&&◌, ◌==◌, not, List, [], Option, Some, None, filter, is_none, if◌then◌else◌}
 use Rattle.std.specs.List.{list_any}
 use Rattle.std.specs.declared.cmp.Ordering.{Ordering}
 use Rattle.std.specs.declared.cmp.Ordering.TheVariants.{Less, Equal, Greater}
-use Rattle.std.specs.Ordering.{ordering_then, nat_cmp, is_gt}
+use Rattle.std.specs.Ordering.{ordering_then, nat_cmp}
 use Rattle.cl_types.specs.declared.keys.RuleKey.{RuleKey}
 use Rattle.cl_types.specs.declared.question.Packet.{Packet}
+use Rattle.cl_types.specs.First.{first}
 use Rattle.cl_types.specs.RuleOrder.{rule_order}
 use Rattle.flow_pipeline.specs.declared.flow.Clause.{Clause}
 use Rattle.flow_pipeline.specs.declared.flow.Does.{Does}
@@ -89,16 +90,6 @@ abbrev pub hit_order : Flow → Flow → Ordering
 hit_order f g =
     ordering_then (nat_cmp g.priority f.priority)
     (ordering_then (nat_cmp (hit_rank f) (hit_rank g)) (rules_order (hit_rule f) (hit_rule g)))
-
--- of two the one that is first in the order, and of two that are alike the one that stands first
-abbrev pub earlier : {T : Type 0} → (T → T → Ordering) → T → Option T → T
-earlier order x None = x
-earlier order x (Some y) = if is_gt (order x y) then y else x
-
--- of a list the one that is first in the order
-abbrev pub first : {T : Type 0} → (T → T → Ordering) → List T → Option T
-first order [] = None
-first order (x ∷ xs) = Some (earlier order x (first order xs))
 
 -- of the flows that can be hit the one that is hit first
 abbrev pub hit_of : List Flow → Arrival → Option Flow

@@ -1,39 +1,60 @@
 //! The classes by which an index tells the flows of a table apart.
 ghost use Rattle.std.specs.Prelude.{◌≡◌, ◌≤◌, ◌/◌, ◌^◌};
 ghost use Rattle.cl_types.specs.Addr.{number_of, width_of};
-ghost use Rattle.flow_pipeline.specs.Class.{first_bits, bits_of, shape_eq, shape_of, block_class, class_of, class_at};
+ghost use Rattle.flow_pipeline.specs.Class.{first_bits, bits_of, shape_eq, shape_of, block_of, block_at, scope_of, class_of, class_at, conj_class};
 
 use crate::flow::Flow;
 use crate::lookup::Arrival;
 use crate::table::Table;
 use cl_types::{Addr, Prefix};
 
-/// What flows of a table have in common: a block of sources, a block of destinations, a conjunction at a
-/// priority, or none of these.
+/// What a search looks for in a flow.
 #[derive(Clone, Copy, Debug, PartialEq, Eq, Hash)]
-pub(crate) enum Class {
-    Source(Bits),
-    Destination(Bits),
-    Conj { table: u8, priority: u16, id: u32 },
-    Rest(u8),
+pub(crate) enum Role {
+    /// A search starts with the flow: it is plain, or it has the first dimension of some id.
+    Start,
+    /// It has this priority, and this dimension of some id.
+    Giving { priority: u16, k: u8 },
+    /// It has this priority, and is hit where this id is complete.
+    Conj { priority: u16, id: u32 },
 }
 
-/// The first bits of addresses of a family, in a table.
+/// A table's flows of a role.
+#[derive(Clone, Copy, Debug, PartialEq, Eq, Hash)]
+pub(crate) struct Scope {
+    pub table: u8,
+    pub role: Role,
+}
+
+/// The addresses to which flows are limited: a block of sources, a block of destinations, or neither.
+#[derive(Clone, Copy, Debug, PartialEq, Eq, Hash)]
+pub(crate) enum Block {
+    Source(Bits),
+    Destination(Bits),
+    Any,
+}
+
+/// The first bits of addresses of a family.
 #[derive(Clone, Copy, Debug, PartialEq, Eq, Hash)]
 pub(crate) struct Bits {
-    pub table: u8,
     pub width: u8,
     pub len: u8,
     pub bits: u128,
 }
 
-/// What tells flows without the field `conj` apart: so many first bits of the source, of the destination, or
-/// nothing.
+/// What flows of a table have in common.
+#[derive(Clone, Copy, Debug, PartialEq, Eq, Hash)]
+pub(crate) struct Class {
+    pub scope: Scope,
+    pub block: Block,
+}
+
+/// What tells the flows of a scope apart: so many first bits of the source, of the destination, or nothing.
 #[derive(Clone, Copy, Debug)]
 pub(crate) enum Shape {
     Source(u8),
     Destination(u8),
-    Rest,
+    Any,
 }
 
 impl Shape {
@@ -44,7 +65,7 @@ impl Shape {
         match (self, other) {
             (Shape::Source(a), Shape::Source(b)) => a == b,
             (Shape::Destination(a), Shape::Destination(b)) => a == b,
-            (Shape::Rest, Shape::Rest) => true,
+            (Shape::Any, Shape::Any) => true,
             _ => false,
         }
     }
@@ -76,11 +97,10 @@ fn width(a: Addr) -> u8
     }
 }
 
-fn bits_of(table: Table, a: Addr, len: u8) -> Bits
-    ensures { result ≡ bits_of table a len }
+fn bits_of(a: Addr, len: u8) -> Bits
+    ensures { result ≡ bits_of a len }
 {
     Bits {
-        table: table.place(),
         width: width(a),
         len,
         bits: first_bits(a, len),
@@ -94,41 +114,66 @@ pub(crate) fn shape_of(flow: &Flow) -> Shape
     match (flow.fields.src, flow.fields.dst) {
         (Some(block), _) => Shape::Source(block.len),
         (None, Some(block)) => Shape::Destination(block.len),
-        (None, None) => Shape::Rest,
+        (None, None) => Shape::Any,
     }
 }
 
-fn block_class(flow: &Flow) -> Class
-    ensures { result ≡ block_class flow.now.table flow.now.fields.src flow.now.fields.dst }
+fn block_of(flow: &Flow) -> Block
+    ensures { result ≡ block_of flow.now.fields.src flow.now.fields.dst }
 {
     match (flow.fields.src, flow.fields.dst) {
-        (Some(block), _) => Class::Source(bits_of(flow.table, block.base, block.len)),
-        (None, Some(block)) => Class::Destination(bits_of(flow.table, block.base, block.len)),
-        (None, None) => Class::Rest(flow.table.place()),
+        (Some(block), _) => Block::Source(bits_of(block.base, block.len)),
+        (None, Some(block)) => Block::Destination(bits_of(block.base, block.len)),
+        (None, None) => Block::Any,
     }
 }
 
-/// The class of a flow: its conjunction, or else its source, its destination or none.
-pub(crate) fn class_of(flow: &Flow) -> Class
-    ensures { result ≡ class_of flow.now }
+/// The flows of the table that have the role.
+pub(crate) fn scope_of(table: Table, role: Role) -> Scope
+    ensures { result ≡ scope_of table role }
 {
-    match flow.fields.conj {
-        Some(id) => Class::Conj {
-            table: flow.table.place(),
-            priority: flow.priority,
-            id,
-        },
-        None => block_class(flow),
+    Scope {
+        table: table.place(),
+        role,
     }
 }
 
-/// The class of the packet's flows of a shape.
-pub(crate) fn class_at(a: &Arrival, shape: Shape) -> Class
-    ensures { result ≡ class_at a.now shape }
+/// The class of a flow in a role.
+pub(crate) fn class_of(flow: &Flow, role: Role) -> Class
+    ensures { result ≡ class_of role flow.now }
+{
+    Class {
+        scope: scope_of(flow.table, role),
+        block: block_of(flow),
+    }
+}
+
+/// The class of an id's conj flows.
+pub(crate) fn conj_class(table: Table, priority: u16, id: u32) -> Class
+    ensures { result ≡ conj_class table priority id }
+{
+    Class {
+        scope: scope_of(table, Role::Conj { priority, id }),
+        block: Block::Any,
+    }
+}
+
+fn block_at(a: &Arrival, shape: Shape) -> Block
+    ensures { result ≡ block_at a.now shape }
 {
     match shape {
-        Shape::Source(len) => Class::Source(bits_of(a.table, a.packet.src, len)),
-        Shape::Destination(len) => Class::Destination(bits_of(a.table, a.packet.dst, len)),
-        Shape::Rest => Class::Rest(a.table.place()),
+        Shape::Source(len) => Block::Source(bits_of(a.packet.src, len)),
+        Shape::Destination(len) => Block::Destination(bits_of(a.packet.dst, len)),
+        Shape::Any => Block::Any,
+    }
+}
+
+/// The class of the packet's flows of a role and a shape.
+pub(crate) fn class_at(a: &Arrival, role: Role, shape: Shape) -> Class
+    ensures { result ≡ class_at a.now role shape }
+{
+    Class {
+        scope: scope_of(a.table, role),
+        block: block_at(a, shape),
     }
 }

@@ -1,18 +1,24 @@
 //! The search for the flow that a packet hits, among those that the index lists.
-ghost use Rattle.std.specs.Prelude.{◌≡◌, true, None, option_copied};
-ghost use Rattle.std.specs.List.{list_any};
-ghost use Rattle.flow_pipeline.specs.Lookup.{meets, is_clauses, clauses_of, is_clause, gives, is_complete, conj_holds, can_be_hit, rule_of, hit_rule, hit_rank, rules_order, hit_order, earlier, hit_of};
+ghost use Rattle.std.specs.Prelude.{◌≡◌, true, false, None, Some, option_copied};
+ghost use Rattle.std.specs.List.{list_any, slice_get};
+ghost use Rattle.std.specs.Option.{option_map_or};
+ghost use Rattle.flow_pipeline.specs.Lookup.{meets, is_clauses, clauses_of, is_clause, gives, is_complete, conj_holds, can_be_hit, rule_of, hit_rule, hit_rank, rules_order, hit_order, hit_of};
 ghost use Rattle.cl_types.specs.Ascending.{Ascends};
-ghost use Rattle.flow_pipeline.specs.Index.{clause_order, Covers};
-ghost use Rattle.flow_pipeline.specs.Search.{found_of, best_of, found_order, considered, all_considered, is_leading, clause_places, conj_places, does_places, visited, all_visited, in_classes, gives_at};
+ghost use Rattle.cl_types.specs.First.{earlier};
+ghost use Rattle.flow_pipeline.specs.declared.class.Role.TheVariants.{Start, Giving};
+ghost use Rattle.flow_pipeline.specs.Index.{clause_order, IsDimension, IsInOrder, Covers};
+ghost use Rattle.flow_pipeline.specs.Search.{IsPast, IsMet, found_of, best_of, found_order, considered_flow, considered, all_considered, is_shared, places_if, shared_places, common_places, partner_places, pair_places, does_places, outranks, visited, all_visited, in_role, gives_at};
 
-use crate::class::{Class, class_at};
+use crate::class::{Role, class_at, conj_class, scope_of};
 use crate::fields::matches;
 use crate::flow::{Clause, Does, Flow};
-use crate::index::{Index, listed};
+use crate::index::{Index, clauses_of, listed, noted};
 use crate::table::Table;
 use cl_types::{Packet, RuleKey, rule_cmp, search};
 use std::cmp::Ordering;
+
+// About so many clauses are passed in the time of one search.
+const CLAUSES_A_SEARCH: usize = 16;
 
 /// A packet as it comes to a table.
 #[derive(Clone, Copy)]
@@ -35,6 +41,12 @@ fn is_clauses(does: &Does) -> bool
     matches!(does, Does::Clauses(_))
 }
 
+fn is_clause(c: &Clause, id: u32, k: u8) -> bool
+    ensures { result ≡ is_clause id k c.now }
+{
+    c.id == id && c.k == k
+}
+
 fn has_clause_in_order(clauses: &[Clause], id: u32, k: u8) -> bool
     requires { Ascends (λ c. c) clause_order clauses.now }
     ensures { result ≡ list_any (is_clause id k) clauses.now }
@@ -43,15 +55,46 @@ fn has_clause_in_order(clauses: &[Clause], id: u32, k: u8) -> bool
 }
 
 // `in_order` says that the clauses ascend.
-fn has_clause(does: &Does, in_order: bool, id: u32, k: u8) -> bool
-    requires { in_order ≡ true → Ascends (λ c. c) clause_order (clauses_of does.now) }
-    ensures { result ≡ list_any (is_clause id k) (clauses_of does.now) }
+fn has_clause(clauses: &[Clause], in_order: bool, id: u32, k: u8) -> bool
+    requires { in_order ≡ true → Ascends (λ c. c) clause_order clauses.now }
+    ensures { result ≡ list_any (is_clause id k) clauses.now }
 {
-    match does {
-        Does::Clauses(clauses) if in_order => has_clause_in_order(clauses.as_slice(), id, k),
-        Does::Clauses(clauses) => clauses.as_slice().iter().any(|c| c.id == id && c.k == k),
-        _ => false,
+    if in_order {
+        return has_clause_in_order(clauses, id, k);
     }
+    clauses.iter().any(|c| is_clause(c, id, k))
+}
+
+// The first place from this one on whose clause is not before dimension k of the id.
+fn meet(clauses: &[Clause], from: usize, id: u32, k: u8) -> usize
+    requires { IsPast id k clauses.now from }
+    ensures { IsMet id k clauses.now result }
+{
+    let sought = Clause { id, k };
+    for at in from..clauses.len() {
+        if !clauses[at].cmp(&sought).is_lt() {
+            return at;
+        }
+    }
+    clauses.len()
+}
+
+fn stands_at(clauses: &[Clause], at: usize, id: u32, k: u8) -> bool
+    ensures { result ≡ option_map_or (is_clause id k) (slice_get clauses.now at) false }
+{
+    match clauses.get(at) {
+        Some(c) => is_clause(c, id, k),
+        None => false,
+    }
+}
+
+// The same as `has_clause`, where the place is met.
+fn has_met(clauses: &[Clause], at: usize, id: u32, k: u8) -> bool
+    requires order { Ascends (λ c. c) clause_order clauses.now }
+    requires met { IsMet id k clauses.now at }
+    ensures { result ≡ list_any (is_clause id k) clauses.now }
+{
+    stands_at(clauses, at, id, k)
 }
 
 fn gives(a: &Arrival, in_order: bool, priority: u16, id: u32, k: u8, flow: &Flow) -> bool
@@ -60,7 +103,7 @@ fn gives(a: &Arrival, in_order: bool, priority: u16, id: u32, k: u8, flow: &Flow
 {
     flow.priority == priority
         && flow.fields.conj.is_none()
-        && has_clause(&flow.does, in_order, id, k)
+        && has_clause(clauses_of(&flow.does), in_order, id, k)
         && meets(a, flow)
 }
 
@@ -105,18 +148,12 @@ fn any_gives(
 // Some flow of the packet's classes gives the dimension.
 fn is_in_classes(flows: &[Flow], index: &Index, a: &Arrival, priority: u16, id: u32, k: u8) -> bool
     requires { Covers index.now flows.now }
-    ensures { result ≡ list_any (gives_at flows.now a.now priority id k) (in_classes index.now a.now index.now.shapes.items) }
+    ensures { result ≡ list_any (gives_at flows.now a.now priority id k) (in_role index.now a.now (Giving priority k)) }
 {
-    for shape in index.shapes.as_slice() {
-        if any_gives(
-            flows,
-            index,
-            a,
-            priority,
-            id,
-            k,
-            listed(index, class_at(a, *shape)),
-        ) {
+    let role = Role::Giving { priority, k };
+    for shape in noted(index, scope_of(a.table, role)) {
+        let places = listed(index, class_at(a, role, *shape));
+        if any_gives(flows, index, a, priority, id, k, places) {
             return true;
         }
     }
@@ -124,7 +161,8 @@ fn is_in_classes(flows: &[Flow], index: &Index, a: &Arrival, priority: u16, id: 
 }
 
 fn is_given(flows: &[Flow], index: &Index, a: &Arrival, priority: u16, id: u32, k: u8) -> bool
-    requires { Covers index.now flows.now }
+    requires covers { Covers index.now flows.now }
+    requires dimension { IsDimension k }
     ensures { result ≡ list_any (gives a.now priority id k) flows.now }
 {
     is_in_classes(flows, index, a, priority, id, k)
@@ -134,10 +172,10 @@ fn is_complete(flows: &[Flow], index: &Index, a: &Arrival, priority: u16, id: u3
     requires { Covers index.now flows.now }
     ensures { result ≡ is_complete flows.now a.now priority id }
 {
-    // a search comes with ids whose first dimension is given
-    let others = is_given(flows, index, a, priority, id, 2)
-        && is_given(flows, index, a, priority, id, 3);
-    others && is_given(flows, index, a, priority, id, 1)
+    // a search comes with ids whose first two dimensions are given
+    is_given(flows, index, a, priority, id, 3)
+        && is_given(flows, index, a, priority, id, 2)
+        && is_given(flows, index, a, priority, id, 1)
 }
 
 fn conj_holds(flows: &[Flow], index: &Index, a: &Arrival, flow: &Flow) -> bool
@@ -223,6 +261,33 @@ fn earlier<'t>(hit: Hit<'t>, best: Option<Hit<'t>>) -> Hit<'t>
     }
 }
 
+// The best so far is hit before this one.
+fn is_behind(hit: &Hit, best: Option<Hit>) -> bool
+    ensures { result ≡ true → Some (earlier found_order (found_of hit.now) (best_of best.entry)) ≡ best_of best.entry }
+{
+    match best {
+        Some(best) => found_cmp(hit, &best).is_gt(),
+        None => false,
+    }
+}
+
+// The better of the best so far and the flow, where that can be hit.
+fn consider_flow<'t>(
+    flows: &'t [Flow],
+    index: &Index,
+    a: &Arrival,
+    best: Option<Hit<'t>>,
+    hit: Hit<'t>,
+) -> Option<Hit<'t>>
+    requires { Covers index.now flows.now }
+    ensures { best_of result ≡ considered_flow flows.now a.now (best_of best.entry) hit.entry.place (Some hit.entry.flow.now) }
+{
+    if !is_behind(&hit, best) && can_be_hit(flows, index, a, hit.flow) {
+        return Some(earlier(hit, best));
+    }
+    best
+}
+
 // The better of the best so far and the flow at the place.
 fn consider<'t>(
     flows: &'t [Flow],
@@ -235,8 +300,8 @@ fn consider<'t>(
     ensures { best_of result ≡ considered flows.now a.now (best_of best.entry) place }
 {
     match flows.get(place) {
-        Some(flow) if can_be_hit(flows, index, a, flow) => Some(earlier(Hit { place, flow }, best)),
-        _ => best,
+        Some(flow) => consider_flow(flows, index, a, best, Hit { place, flow }),
+        None => best,
     }
 }
 
@@ -257,56 +322,196 @@ fn consider_all<'t>(
     best
 }
 
-// The clause is an id's first dimension, and the id is complete.
-fn is_leading(flows: &[Flow], index: &Index, a: &Arrival, priority: u16, clause: &Clause) -> bool
-    requires { Covers index.now flows.now }
-    ensures { result ≡ is_leading flows.now a.now priority clause.now }
+// The clause has dimension k of an id whose dimension l is among the others.
+fn is_shared(index: &Index, clause: &Clause, k: u8, others: &[Clause], l: u8) -> bool
+    requires { IsInOrder index.now others.now }
+    ensures { result ≡ is_shared k l others.now clause.now }
 {
-    clause.k == 1 && is_complete(flows, index, a, priority, clause.id)
+    clause.k == k && has_clause(others, index.in_order, clause.id, l)
 }
 
-// The conj flows of the complete ids of which the flow gives the first dimension.
-fn consider_conj<'t>(
+// The same, where the others are met at the place.
+fn is_shared_met(clause: &Clause, k: u8, others: &[Clause], l: u8, at: usize) -> bool
+    requires order { Ascends (λ c. c) clause_order others.now }
+    requires met { IsMet clause.now.id l others.now at }
+    ensures { result ≡ is_shared k l others.now clause.now }
+{
+    clause.k == k && has_met(others, at, clause.id, l)
+}
+
+// The places of the conj flows of the clause's id, where it is shared.
+fn places_if<'i>(shared: bool, index: &'i Index, flow: &Flow, clause: &Clause) -> &'i [usize]
+    ensures { result.now ≡ places_if shared index.now flow.now clause.now }
+{
+    if !shared {
+        return &[];
+    }
+    listed(index, conj_class(flow.table, flow.priority, clause.id))
+}
+
+// The conj flows of the ids of which the clauses have dimension k, and the others dimension l.
+fn consider_shared<'t>(
     flows: &'t [Flow],
     index: &Index,
     a: &Arrival,
     best: Option<Hit<'t>>,
     flow: &Flow,
     clauses: &[Clause],
+    k: u8,
+    others: &[Clause],
+    l: u8,
 ) -> Option<Hit<'t>>
-    requires { Covers index.now flows.now }
-    ensures { best_of result ≡ all_considered flows.now a.now (best_of best.entry) (conj_places index.now flows.now a.now flow.now clauses.now) }
+    requires covers { Covers index.now flows.now }
+    requires order { IsInOrder index.now others.now }
+    ensures { best_of result ≡ all_considered flows.now a.now (best_of best.entry) (shared_places index.now flow.now k l others.now clauses.now) }
 {
     let mut best = best;
     for clause in clauses {
-        let places = clause_places(flows, index, a, flow, clause);
+        let shared = is_shared(index, clause, k, others, l);
+        let places = places_if(shared, index, flow, clause);
         best = consider_all(flows, index, a, best, places);
     }
     best
 }
 
-// The places of the conj flows of a first dimension's id, where the others are given too.
-fn clause_places<'i>(
-    flows: &[Flow],
-    index: &'i Index,
+// The same as `consider_shared` in one pass over both lists.
+fn consider_met<'t>(
+    flows: &'t [Flow],
+    index: &Index,
     a: &Arrival,
+    best: Option<Hit<'t>>,
     flow: &Flow,
-    clause: &Clause,
-) -> &'i [usize]
-    requires { Covers index.now flows.now }
-    ensures { result.now ≡ clause_places index.now flows.now a.now flow.now clause.now }
+    clauses: &[Clause],
+    k: u8,
+    others: &[Clause],
+    l: u8,
+) -> Option<Hit<'t>>
+    requires covers { Covers index.now flows.now }
+    requires clauses { Ascends (λ c. c) clause_order clauses.now }
+    requires others { Ascends (λ c. c) clause_order others.now }
+    ensures { best_of result ≡ all_considered flows.now a.now (best_of best.entry) (shared_places index.now flow.now k l others.now clauses.now) }
 {
-    if !is_leading(flows, index, a, flow.priority, clause) {
-        return &[];
+    let mut best = best;
+    let mut at = 0;
+    for clause in clauses {
+        at = meet(others, at, clause.id, l);
+        let shared = is_shared_met(clause, k, others, l, at);
+        let places = places_if(shared, index, flow, clause);
+        best = consider_all(flows, index, a, best, places);
     }
-    listed(
-        index,
-        Class::Conj {
-            table: flow.table.place(),
-            priority: flow.priority,
-            id: clause.id,
-        },
-    )
+    best
+}
+
+// The conj flows of the ids of which the clauses have dimension k, and the others dimension l.
+fn consider_among<'t>(
+    flows: &'t [Flow],
+    index: &Index,
+    a: &Arrival,
+    best: Option<Hit<'t>>,
+    flow: &Flow,
+    clauses: &[Clause],
+    k: u8,
+    others: &[Clause],
+    l: u8,
+) -> Option<Hit<'t>>
+    requires covers { Covers index.now flows.now }
+    requires clauses { IsInOrder index.now clauses.now }
+    requires others { IsInOrder index.now others.now }
+    ensures { best_of result ≡ all_considered flows.now a.now (best_of best.entry) (shared_places index.now flow.now k l others.now clauses.now) }
+{
+    // one pass over the others costs less than so many searches in them
+    if index.in_order && others.len() / CLAUSES_A_SEARCH <= clauses.len() {
+        consider_met(flows, index, a, best, flow, clauses, k, others, l)
+    } else {
+        consider_shared(flows, index, a, best, flow, clauses, k, others, l)
+    }
+}
+
+// The conj flows of the ids of which the flow gives the first dimension, and its partner the second.
+fn consider_common<'t>(
+    flows: &'t [Flow],
+    index: &Index,
+    a: &Arrival,
+    best: Option<Hit<'t>>,
+    flow: &Flow,
+    partner: &Flow,
+) -> Option<Hit<'t>>
+    requires covers { Covers index.now flows.now }
+    requires order { IsInOrder index.now (clauses_of flow.now.does) }
+    requires partner { IsInOrder index.now (clauses_of partner.now.does) }
+    ensures { best_of result ≡ all_considered flows.now a.now (best_of best.entry) (common_places index.now flow.now (clauses_of flow.now.does) (clauses_of partner.now.does)) }
+{
+    let mine = clauses_of(&flow.does);
+    let theirs = clauses_of(&partner.does);
+    // the fewer are looked for among the more
+    if mine.len() <= theirs.len() {
+        consider_among(flows, index, a, best, flow, mine, 1, theirs, 2)
+    } else {
+        consider_among(flows, index, a, best, flow, theirs, 2, mine, 1)
+    }
+}
+
+fn consider_partner<'t>(
+    flows: &'t [Flow],
+    index: &Index,
+    a: &Arrival,
+    best: Option<Hit<'t>>,
+    flow: &Flow,
+    place: usize,
+) -> Option<Hit<'t>>
+    requires covers { Covers index.now flows.now }
+    requires order { IsInOrder index.now (clauses_of flow.now.does) }
+    ensures { best_of result ≡ all_considered flows.now a.now (best_of best.entry) (partner_places index.now flows.now a.now flow.now place) }
+{
+    match flows.get(place) {
+        Some(partner) if meets(a, partner) => {
+            consider_common(flows, index, a, best, flow, partner)
+        }
+        _ => best,
+    }
+}
+
+fn consider_partners<'t>(
+    flows: &'t [Flow],
+    index: &Index,
+    a: &Arrival,
+    best: Option<Hit<'t>>,
+    flow: &Flow,
+    places: &[usize],
+) -> Option<Hit<'t>>
+    requires covers { Covers index.now flows.now }
+    requires order { IsInOrder index.now (clauses_of flow.now.does) }
+    ensures { best_of result ≡ all_considered flows.now a.now (best_of best.entry) (pair_places index.now flows.now a.now flow.now places.now) }
+{
+    let mut best = best;
+    for place in places {
+        best = consider_partner(flows, index, a, best, flow, *place);
+    }
+    best
+}
+
+// The conj flows of the ids of which the flow gives the first dimension, and others the second.
+fn consider_conj<'t>(
+    flows: &'t [Flow],
+    index: &Index,
+    a: &Arrival,
+    best: Option<Hit<'t>>,
+    flow: &Flow,
+) -> Option<Hit<'t>>
+    requires covers { Covers index.now flows.now }
+    requires order { IsInOrder index.now (clauses_of flow.now.does) }
+    ensures { best_of result ≡ all_considered flows.now a.now (best_of best.entry) (pair_places index.now flows.now a.now flow.now (in_role index.now a.now (Giving flow.now.priority 2))) }
+{
+    let role = Role::Giving {
+        priority: flow.priority,
+        k: 2,
+    };
+    let mut best = best;
+    for shape in noted(index, scope_of(a.table, role)) {
+        let places = listed(index, class_at(a, role, *shape));
+        best = consider_partners(flows, index, a, best, flow, places);
+    }
+    best
 }
 
 fn visit_flow<'t>(
@@ -317,15 +522,23 @@ fn visit_flow<'t>(
     place: usize,
     flow: &Flow,
 ) -> Option<Hit<'t>>
-    requires { Covers index.now flows.now }
+    requires covers { Covers index.now flows.now }
+    requires order { IsInOrder index.now (clauses_of flow.now.does) }
     ensures { best_of result ≡ all_considered flows.now a.now (best_of best.entry) (does_places index.now flows.now a.now place flow.now flow.now.does) }
 {
     match &flow.does {
-        Does::Clauses(clauses) if meets(a, flow) => {
-            consider_conj(flows, index, a, best, flow, clauses.as_slice())
-        }
+        Does::Clauses(_) if meets(a, flow) => consider_conj(flows, index, a, best, flow),
         Does::Clauses(_) => best,
         _ => consider(flows, index, a, best, place),
+    }
+}
+
+fn outranks(best: Option<Hit>, priority: u16) -> bool
+    ensures { result ≡ outranks (best_of best.entry) priority }
+{
+    match best {
+        Some(hit) => priority < hit.flow.priority,
+        None => false,
     }
 }
 
@@ -338,11 +551,13 @@ fn visit<'t>(
     place: usize,
 ) -> Option<Hit<'t>>
     requires { Covers index.now flows.now }
-    ensures { best_of result ≡ all_considered flows.now a.now (best_of best.entry) (visited index.now flows.now a.now place) }
+    ensures { best_of result ≡ visited index.now flows.now a.now (best_of best.entry) place }
 {
     match flows.get(place) {
-        Some(flow) => visit_flow(flows, index, a, best, place, flow),
-        None => best,
+        Some(flow) if !outranks(best, flow.priority) => {
+            visit_flow(flows, index, a, best, place, flow)
+        }
+        _ => best,
     }
 }
 
@@ -354,7 +569,7 @@ fn visit_all<'t>(
     places: &[usize],
 ) -> Option<Hit<'t>>
     requires { Covers index.now flows.now }
-    ensures { best_of result ≡ all_considered flows.now a.now (best_of best.entry) (all_visited index.now flows.now a.now places.now) }
+    ensures { best_of result ≡ all_visited index.now flows.now a.now (best_of best.entry) places.now }
 {
     let mut best = best;
     for place in places {
@@ -363,14 +578,20 @@ fn visit_all<'t>(
     best
 }
 
-// The best of the flows to which those in the packet's classes lead.
+// The best of the flows to which those lead with which a search starts.
 fn visit_classes<'t>(flows: &'t [Flow], index: &Index, a: &Arrival) -> Option<Hit<'t>>
     requires { Covers index.now flows.now }
-    ensures { best_of result ≡ all_considered flows.now a.now None (all_visited index.now flows.now a.now (in_classes index.now a.now index.now.shapes.items)) }
+    ensures { best_of result ≡ all_visited index.now flows.now a.now None (in_role index.now a.now Start) }
 {
     let mut best = None;
-    for shape in index.shapes.as_slice() {
-        best = visit_all(flows, index, a, best, listed(index, class_at(a, *shape)));
+    for shape in noted(index, scope_of(a.table, Role::Start)) {
+        best = visit_all(
+            flows,
+            index,
+            a,
+            best,
+            listed(index, class_at(a, Role::Start, *shape)),
+        );
     }
     best
 }

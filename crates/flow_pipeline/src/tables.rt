@@ -47,7 +47,7 @@ impl Tables {
             places: Vec::new(alloc),
             index: Index {
                 classes: IndexMap::new(alloc),
-                shapes: Vec::new(alloc),
+                shapes: IndexMap::new(alloc),
                 in_order: true,
             },
         })

@@ -349,36 +349,40 @@ fn plain_flows(rt: HostRuntime) {
     );
 }
 
-// One flow of each kind of change; the listing keeps its order.
-#[test]
-fn bundles(rt: HostRuntime) {
-    let alloc = rt.alloc();
-    let mut tables = Tables::new(alloc).expect(&rt, "memory");
-    put(&rt, alloc, &mut tables, 200, source(CLI), Does::Next);
-    put(&rt, alloc, &mut tables, 200, source(DB), Does::Next);
-    let flow = |fields: Match, does: Does| Flow {
+fn listed(rt: &impl Abort, alloc: Global, fields: Match, does: Does) -> List<Flow> {
+    let mut flows = Vec::new(alloc);
+    let flow = Flow {
         table: Table::IngressRule,
         priority: 200,
         fields,
         does,
     };
-    let changed = flow(source(DB), Does::Isolate);
-    let added = flow(source(WEB), Does::Goto(Table::Output));
-    assert!(rt; changed.goes_forward());
-    assert!(rt; added.goes_forward());
+    flows.push(flow).expect(rt, "memory");
+    List::of(flows)
+}
+
+fn write_listed(rt: &impl Abort, lines: &mut Text, flows: &List<Flow>) {
+    for flow in flows.as_slice() {
+        write_flow(lines, flow).expect(rt, "memory");
+    }
+}
+
+// A copy of a bundle has a flow of each kind of change.
+#[test]
+fn copies_of_bundles(rt: HostRuntime) {
+    let alloc = rt.alloc();
     let bundle = Bundle {
-        removed: one(&rt, alloc, flow(source(CLI), Does::Next)),
-        changed: one(&rt, alloc, changed),
-        added: one(&rt, alloc, added),
+        removed: listed(&rt, alloc, source(CLI), Does::Next),
+        changed: listed(&rt, alloc, source(DB), Does::Isolate),
+        added: listed(&rt, alloc, source(WEB), Does::Goto(Table::Output)),
     };
     let copied = bundle.copy().expect(&rt, "memory");
-    tables.apply(&copied).expect(&rt, "memory");
     let mut lines = Text::new(alloc);
-    for flow in tables.flows().as_slice() {
-        write_flow(&mut lines, flow).expect(&rt, "memory");
-    }
+    write_listed(&rt, &mut lines, &copied.removed);
+    write_listed(&rt, &mut lines, &copied.changed);
+    write_listed(&rt, &mut lines, &copied.added);
     assert_eq!(rt;
         lines.as_slice(),
-        b"table=IngressRule,priority=200,nw_src=10.10.1.5 actions=goto(Output)table=IngressRule,priority=200,nw_src=10.10.2.7 actions=isolate".as_slice()
+        b"table=IngressRule,priority=200,nw_src=10.10.1.6 actions=nexttable=IngressRule,priority=200,nw_src=10.10.2.7 actions=isolatetable=IngressRule,priority=200,nw_src=10.10.1.5 actions=goto(Output)".as_slice()
     );
 }

@@ -1,14 +1,23 @@
-use Rattle.std.proofs.Common.{◌+◌, ◌++◌, drop, sym, ap, ◌∙◌, arith}
-use Rattle.flow_pipeline.specs.Search.{best_of, all_considered, conj_places}
-use Rattle.flow_pipeline.proofs.Searching.{split_at}
-use Rattle.flow_pipeline.proofs.Hits.{all_considered-append}
+use Rattle.std.proofs.Common.{◌+◌, drop, ap, ◌∙◌, arith}
+use Rattle.std.specs.List.{flat_map}
+use Rattle.flow_pipeline.specs.declared.class.Role.TheVariants.{Giving}
+use Rattle.flow_pipeline.specs.declared.class.Shape.TheVariants as shape
+use Rattle.flow_pipeline.specs.Class.{class_at}
+use Rattle.flow_pipeline.specs.Index.{listed}
+use Rattle.flow_pipeline.specs.Search.{best_of, all_considered, partner_places, pair_places}
+use Rattle.flow_pipeline.proofs.Searching.{many_more}
 use Rattle.flow_pipeline.proofs.lookup.consider_conj.Goals as goal
 
-pub loop-clause-preserved : goal.loop-clause-preserved
-loop-clause-preserved c =
-    let rest = conj_places c.args.index.now c.args.flows.now c.args.a.now c.args.flow.now (drop (c.loop-clause.clause-index + 1) c.args.clauses.now) in
-    ap (λ b. all_considered c.args.flows.now c.args.a.now b rest) c.consider_all-best.ensures
-    ∙ sym (all_considered-append c.args.flows.now c.args.a.now (best_of c.loop-clause.best) c.clause_places-places.result.now rest)
-    ∙ ap (λ ps. all_considered c.args.flows.now c.args.a.now (best_of c.loop-clause.best) (ps ++ rest)) c.clause_places-places.ensures
-    ∙ ap (λ cs. all_considered c.args.flows.now c.args.a.now (best_of c.loop-clause.best) (conj_places c.args.index.now c.args.flows.now c.args.a.now c.args.flow.now cs)) (sym (split_at c.args.clauses.now c.loop-clause.clause-index (record { id = 0; k = 0 }) (omega arith)))
-    ∙ c.loop-clause.invariant
+pub loop-shape-preserved : goal.loop-shape-preserved
+loop-shape-preserved c =
+    let index = c.args.index.now in
+    let flows = c.args.flows.now in
+    let a = c.args.a.now in
+    let f = c.args.flow.now in
+    let best = best_of c.loop-shape.best in
+    let shapes = c.noted-shape-items.result.now in
+    let rest = pair_places index flows a f (flat_map (λ s. listed index (class_at a (Giving f.priority 2) s)) (drop (c.loop-shape.shape-index + 1) shapes)) in
+    ap (λ b. all_considered flows a b rest)
+    (c.consider_partners-best.ensures ∙ ap (λ ps. all_considered flows a best (pair_places index flows a f ps)) (c.listed-places.ensures ∙ ap (λ k. listed index k) c.class_at.ensures))
+    ∙ many_more flows a (partner_places index flows a f) (λ s. listed index (class_at a (Giving f.priority 2) s)) shapes c.loop-shape.shape-index (shape.Source 0) (omega arith) best
+    ∙ c.loop-shape.invariant

@@ -1,7 +1,11 @@
 use Rattle.std.proofs.Common.{◌≡◌, None, drop}
-use Rattle.flow_pipeline.specs.Search.{best_of, all_considered, all_visited, in_classes}
+use Rattle.std.specs.List.{flat_map}
+use Rattle.flow_pipeline.specs.declared.class.Role.TheVariants.{Start}
+use Rattle.flow_pipeline.specs.Class.{class_at}
+use Rattle.flow_pipeline.specs.Index.{listed}
+use Rattle.flow_pipeline.specs.Search.{best_of, all_visited, in_role}
 use Rattle.flow_pipeline.proofs.lookup.visit_classes.Given as goal
 
 -- what is left makes of the best so far what all shapes make of none
 abbrev pub invariant-loop-shape : goal.invariant-loop-shape
-invariant-loop-shape l = all_considered l.flows l.a (best_of l.best) (all_visited l.index l.flows l.a (in_classes l.index l.a (drop l.shape-index l.index.shapes.items))) ≡ all_considered l.flows l.a None (all_visited l.index l.flows l.a (in_classes l.index l.a l.index.shapes.items))
+invariant-loop-shape l = all_visited l.index l.flows l.a (best_of l.best) (flat_map (λ s. listed l.index (class_at l.a Start s)) (drop l.shape-index l.shape-items)) ≡ all_visited l.index l.flows l.a None (in_role l.index l.a Start)
