@@ -1,5 +1,5 @@
 -- A pod that takes no address of another stays apart from all.
-use Rattle.std.proofs.Common.{◌≡◌, List, [], ◌∷◌, Bool, true, false, not, ◌&&◌, ◌||◌, Some, None, find, if◌then◌else◌, refl, sym, ap, ◌∙◌}
+use Rattle.std.proofs.Common.{◌≡◌, List, [], ◌∷◌, Bool, true, false, not, ◌&&◌, ◌||◌, Some, None, find, filter, if◌then◌else◌, refl, sym, ap, ◌∙◌}
 use borrow.Author.Tests.{eqb-true}
 use Rattle.std.specs.List.{list_any, AllByRecursion}
 use Rattle.std.specs.declared.cmp.Ordering.{Ordering}
@@ -9,14 +9,12 @@ use Rattle.std.proofs.lemmas.Bool.{true≢false}
 use Rattle.cl_types.specs.declared.addr.Addr.{Addr}
 use Rattle.cl_types.specs.declared.addr.Addr.TheVariants.{V4, V6}
 use Rattle.cl_types.specs.AscendingLaws.{all_put}
+use Rattle.cl_types.specs.ListLaws.{all_filter}
 use Rattle.cl_types.specs.Ascending.{Ascends, put}
 use Rattle.cl_types.specs.Addr.{addr_eq}
 use Rattle.cl_types.specs.RuleOrder.{pod_order, pod_order_total}
-use Rattle.cl_types.specs.Ascending.{found}
-use Rattle.cl_types.specs.Equality.{is_same}
-use Rattle.cluster_objects.specs.declared.change.Applied.TheVariants.{Changed, Unchanged}
-use Rattle.cluster_objects.specs.declared.pod.Pod as pod
-use Rattle.cluster_objects.specs.Apply.{Placed, is_there, placed, at_pod, takes_address}
+use Rattle.cluster_objects.specs.Apply.{at_pod}
+use Rattle.cluster_objects.specs.Refusals.{takes_address}
 use Rattle.cluster_objects.specs.Pod.{has_address}
 use Rattle.cluster_objects.specs.Pod.{counts}
 use Rattle.cluster_objects.specs.Cluster.{AreApart, AllApart}
@@ -117,13 +115,13 @@ put_apart_at p (y ∷ ys) ascends free apart = by_place (pod_order y.key p.key) 
 pub put_apart : (p : PodData) (qs : List PodData) → Ascends (λ (q : PodData). q.key) pod_order qs → (if counts p then find (takes_address p) qs else None) ≡ None → AllApart qs → AllApart (put (at_pod p.key) p qs)
 put_apart p qs ascends none apart = put_apart_at p qs ascends (all_free p qs none) apart
 
--- after a put of a free pod all are apart, whether it was there or not
-pub placed_apart : (p : PodData) (qs : List PodData) → Ascends (λ (q : PodData). q.key) pod_order qs → (if counts p then find (takes_address p) qs else None) ≡ None → AllApart qs → AllApart (placed (is_same pod.the_code) (at_pod p.key) p qs).items
-placed_apart p qs ascends none apart = by_test (is_there (is_same pod.the_code) p (found (at_pod p.key) qs))
-  where
-    either : Bool → Placed PodData
-    either b = if b then record { items = qs; applied = Unchanged } else record { items = put (at_pod p.key) p qs; applied = Changed }
+-- ---- pods are left out
 
-    by_test : (b : Bool) → AllApart (either b).items
-    by_test true = apart
-    by_test false = put_apart p qs ascends none apart
+-- what a test keeps of pods that are apart is apart
+pub kept_apart : (keep : PodData → Bool) (qs : List PodData) → AllApart qs → AllApart (filter keep qs)
+kept_apart keep [] apart = tt
+kept_apart keep (q ∷ qs) apart = by_test (keep q) (kept_apart keep qs apart.1)
+  where
+    by_test : (b : Bool) → AllApart (filter keep qs) → AllApart (if b then q ∷ filter keep qs else filter keep qs)
+    by_test true rest = (all_filter (AreApart q) keep qs apart.0, rest)
+    by_test false rest = rest

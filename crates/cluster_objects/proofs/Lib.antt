@@ -1,3 +1,6 @@
 pub mod Apart
-pub mod Changes
 pub mod FirstRule
+pub mod Numbered
+pub mod Puts
+pub mod Refusals
+pub mod Tiers

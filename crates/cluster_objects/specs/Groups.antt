@@ -6,7 +6,7 @@ use Rattle.cl_types.specs.Ascending.{found}
 use Rattle.label_select.specs.declared.labels.Label.{Label}
 use Rattle.label_select.specs.Group.{Group, group_has}
 use Rattle.label_select.specs.Selection.{put_label}
-use Rattle.cluster_objects.specs.declared.node.Namespace.{Namespace}
+use Rattle.cluster_objects.specs.Node.{NamespaceData}
 use Rattle.cluster_objects.specs.Pod.{PodData, counts}
 use Rattle.cluster_objects.specs.Cluster.{ClusterData}
 
@@ -15,9 +15,9 @@ abbrev pub name_label : List ℕ
 name_label = codes "kubernetes.io/metadata.name"
 
 -- the labels of a namespace's object, where there is one
-abbrev pub object_labels : List Namespace → List ℕ → List Label
+abbrev pub object_labels : List NamespaceData → List ℕ → List Label
 object_labels namespaces name =
-    unwrap_or (option_map (λ (n : Namespace). n.labels) (found (λ (n : Namespace). slice_cmp nat_cmp n.name name) namespaces)) []
+    unwrap_or (option_map (λ (n : NamespaceData). n.labels) (found (λ (n : NamespaceData). slice_cmp nat_cmp n.name name) namespaces)) []
 
 -- the labels of a namespace: those of its object, with its name
 abbrev pub ns_labels : ClusterData → List ℕ → List Label

@@ -1,5 +1,5 @@
 -- Policies as plain data, and what their type keeps.
-use Rattle.std.specs.Prelude.{◌≡◌, ℕ, List, [], ◌∷◌, length, Bool, true, false, ◌≢◌}
+use Rattle.std.specs.Prelude.{◌≡◌, ℕ, List, [], length, Bool, true, false, ◌≢◌, codes}
 use Rattle.std.specs.List.{AllByRecursion}
 use Rattle.std.specs.Str.{str_to_ascii_lowercase}
 use Rattle.std.specs.declared.cmp.Ordering.{Ordering}
@@ -14,6 +14,7 @@ use Rattle.cl_types.specs.PolicyName.{PolicyName}
 use Rattle.cl_types.specs.Dir.{dir_place}
 use Rattle.label_select.specs.Group.{Group}
 use Rattle.cluster_objects.specs.declared.policy.Rule.{Rule}
+use Rattle.cluster_objects.specs.Tier.{kube_tier}
 
 pub record PolicyData : Type 0 where
   pub key : PolicyName
@@ -39,7 +40,7 @@ IsRuleOf key priority r = (r.key.policy ≡ key) × (r.key.priority ≡ priority
 
 -- a rule of a Kubernetes policy only allows, in a direction in which the policy isolates
 pub record IsKubeRule (p : PolicyData) (r : Rule) : Type 0 where
-  pub tier : r.key.tier ≡ 255
+  pub tier : r.key.tier ≡ kube_tier
   pub action : r.action ≡ Allow
   pub direction : isolates p r.key.dir ≡ true
 
@@ -51,7 +52,7 @@ pub record IsKubePolicy (p : PolicyData) : Type 0 where
 
 -- the text of a tier that stands for Baseline, without regard to case
 abbrev pub IsBaseline : List ℕ → Type 0
-IsBaseline tier = str_to_ascii_lowercase tier ≡ 98 ∷ 97 ∷ 115 ∷ 101 ∷ 108 ∷ 105 ∷ 110 ∷ 101 ∷ []
+IsBaseline tier = str_to_ascii_lowercase tier ≡ codes "baseline"
 
 pub record IsNativePolicy (p : PolicyData) : Type 0 where
   pub isolates_nobody_in : p.isolates_in ≡ false

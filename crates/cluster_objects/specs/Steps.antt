@@ -1,6 +1,6 @@
 -- The three steps in which a verdict is found, over any rules with a key and an action (Antrea's tiers, with
 -- Baseline after the Kubernetes policies).
-use Rattle.std.specs.Prelude.{ℕ, List, [], ◌∷◌, Bool, true, false, not, ◌&&◌, ◌==◌, Option, Some, None, if◌then◌else◌}
+use Rattle.std.specs.Prelude.{List, [], ◌∷◌, Bool, true, false, not, ◌&&◌, ◌==◌, Option, Some, None, if◌then◌else◌}
 use Rattle.std.specs.declared.cmp.Ordering.{Ordering}
 use Rattle.cl_types.specs.declared.keys.PolicyKind.{PolicyKind}
 use Rattle.cl_types.specs.declared.keys.PolicyKind.TheVariants.{Kube}
@@ -9,6 +9,7 @@ use Rattle.cl_types.specs.declared.verdict.Action.{Action}
 use Rattle.cl_types.specs.declared.verdict.Action.TheVariants as action
 use Rattle.cl_types.specs.declared.verdict.Verdict.{Verdict}
 use Rattle.cl_types.specs.declared.verdict.Verdict.TheVariants as verdict
+use Rattle.cluster_objects.specs.Tier.{baseline_tier}
 use Rattle.cluster_objects.specs.declared.steps.Stage.{Stage}
 use Rattle.cluster_objects.specs.declared.steps.Stage.TheVariants.{Native, Kubernetes, Baseline}
 use Rattle.cl_types.specs.First.{earlier as earlier_by, first as first_by}
@@ -18,10 +19,6 @@ use Rattle.cl_types.specs.RuleOrder.{rule_order}
 abbrev pub is_kube : PolicyKind → Bool
 is_kube Kube = true
 is_kube _ = false
-
--- Baseline is the tier with this number
-abbrev pub baseline_tier : ℕ
-baseline_tier = 253
 
 -- native rules outside Baseline, rules of Kubernetes policies, native rules of Baseline
 abbrev pub in_stage : Stage → PolicyKind → RuleKey → Bool

@@ -3,28 +3,48 @@ ghost use Rattle.std.proofs.lemmas.Grind.{common_steps};
 ghost use Rattle.std.specs.Prelude.{◌≡◌, IfOk};
 ghost use Rattle.cluster_objects.specs.declared.change.ClusterRefusal.TheVariants.{NoMemory as no_memory};
 
-use crate::node::NodeInfo;
+use crate::egress::EgressObj;
+use crate::node::{Namespace, NodeInfo};
 use crate::pod::Pod;
-use crate::policy::Policy;
-use cl_types::{Copies, NoMemory, PodKey};
+use crate::policy::{Policy, Tier};
+use cl_types::{Copies, NoMemory, PodKey, PolicyKey, Text};
 use thiserror::Error;
 
 /// An object of the cluster.
 #[derive(Clone, Debug, Drop)]
 pub enum Object {
     Node(NodeInfo),
+    Namespace(Namespace),
     Pod(Pod),
+    Tier(Tier),
     Policy(Policy),
+    Egress(EgressObj),
 }
 
 impl Copies for Object {
     ghost exact = { λ x y h. Prim.search (rules, common_steps) };
 }
 
-/// A change of the cluster.
+/// What names an object of the cluster. A tier is named by its name, though tiers stand by priority.
+#[derive(Clone, Debug, Drop)]
+pub enum ObjectKey {
+    Node(Text),
+    Namespace(Text),
+    Pod(PodKey),
+    Tier(Text),
+    Policy(PolicyKey),
+    Egress(Text),
+}
+
+impl Copies for ObjectKey {
+    ghost exact = { λ x y h. Prim.search (rules, common_steps) };
+}
+
+/// A change of the cluster: an object stands at its key in place of what stood there, or nothing does.
 #[derive(Clone, Debug, Drop)]
 pub enum Change {
     Put(Object),
+    Remove(ObjectKey),
 }
 
 impl Copies for Change {
@@ -38,15 +58,60 @@ pub enum Applied {
     Unchanged,
 }
 
+/// What takes a change back: the key of the change, the object that stood there before it, and whether the nodes
+/// were fixed before it.
+#[derive(Clone, Debug, Drop)]
+pub struct Undo {
+    pub key: ObjectKey,
+    pub old: Option<Object>,
+    pub fixed: bool,
+}
+
+impl Copies for Undo {
+    ghost exact = { λ x y h. Prim.search (rules, common_steps) };
+}
+
+/// A change that was made: whether it made a difference, and what takes it back.
+#[derive(Clone, Debug, Drop)]
+pub struct Kept {
+    pub applied: Applied,
+    pub undo: Undo,
+}
+
+impl Copies for Kept {
+    ghost exact = { λ x y h. Prim.search (rules, common_steps) };
+}
+
 /// Why a change is refused.
 #[derive(Clone, Debug, Drop, Error)]
 pub enum ClusterRefusal {
     /// The nodes are fixed, and a Node would change.
     #[error("the nodes are fixed")]
     NodesFixed,
-    /// Another counting pod, this one, has an address of the pod.
+    /// A block of the node meets one of another node: the one with the least name.
+    #[error("another node has a part of the block")]
+    CidrOverlap(Text),
+    /// A tier keeps its priority, and a static tier is never removed.
+    #[error("the tier is fixed")]
+    TierFixed,
+    /// Another tier, this one, has the priority.
+    #[error("another tier has the priority")]
+    TierTaken(Text),
+    /// Policies name the tier: this one is the first of them in the order of their keys.
+    #[error("a policy is in the tier")]
+    TierInUse(PolicyKey),
+    /// No tier has the name, which is given as the policy writes it.
+    #[error("no such tier")]
+    NoSuchTier(Text),
+    /// Another counting pod has an address of the pod: the first one in the order of their keys.
     #[error("another pod has the address")]
     AddressInUse(PodKey),
+    /// A limit, this one, would be passed.
+    #[error("too many")]
+    TooMany(u32),
+    /// A listed node, this one, would be the egress node of more addresses than there are marks.
+    #[error("too many addresses on the egress node")]
+    TooManyMarks(Text),
     #[error("out of memory")]
     NoMemory,
 }

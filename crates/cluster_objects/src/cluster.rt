@@ -1,54 +1,50 @@
-ghost use Rattle.std.proofs.Common.{rules};
-ghost use Rattle.std.proofs.lemmas.Grind.{common_steps};
-ghost use Rattle.std.specs.Prelude.{◌≡◌, ◌&&◌, IfOk, OnErr, option_copied, Ok, None, find};
-ghost use Rattle.cl_types.specs.Ascending.{Ascends, found};
-ghost use Rattle.cl_types.specs.Equality.{is_same};
-ghost use Rattle.cluster_objects.specs.Apply.{is_there, placed};
-ghost use Rattle.cluster_objects.specs.Cluster.{static_tiers, tier_of};
+ghost use Rattle.std.specs.Prelude.{◌≡◌, ◌≤◌, ◌&&◌, IfOk, option_copied, find, length, vec_capacity};
+ghost use Rattle.cluster_objects.specs.Tier.{static_tiers, tier_of};
 
-use crate::change::{Applied, Change, ClusterRefusal, Object};
 use crate::egress::EgressObj;
+use crate::kinds::copied;
 use crate::node::{Namespace, NodeInfo};
-use crate::pod::{Pod, address_taker, counting_pod_at};
+use crate::pod::{Pod, counting_pod_at};
 use crate::policy::{Policy, Tier};
-use cl_types::{Addr, Copies, Keyed, List, NoMemory, Same, Text};
+use cl_types::{Addr, NoMemory, Text};
 use label_select::{GroupKey, Scope, Selector};
 use std::alloc::Global;
 use std::marker::Model;
 
+mod changes;
+mod refusals;
+mod undo;
+
 /// The objects of a cluster, each kind in ascending order of its keys.
-#[derive(Clone, Debug, Drop)]
+#[derive(Debug, Drop)]
 pub struct Cluster {
-    nodes: List<NodeInfo>,
+    nodes: Vec<NodeInfo>,
     fixed: bool,
-    namespaces: List<Namespace>,
-    pods: List<Pod>,
-    tiers: List<Tier>,
-    policies: List<Policy>,
-    egresses: List<EgressObj>,
+    namespaces: Vec<Namespace>,
+    pods: Vec<Pod>,
+    tiers: Vec<Tier>,
+    policies: Vec<Policy>,
+    egresses: Vec<EgressObj>,
 }
 
 impl Model for Cluster {
-    ghost use Rattle.cluster_objects.specs.Cluster.{IsCluster};
-    ghost use Rattle.cluster_objects.specs.Cluster.{ClusterData};
+    ghost use Rattle.std.specs.Prelude.{vec_capacity};
+    ghost use Rattle.cluster_objects.specs.Cluster.{ClusterState, IsState};
 
-    ghost Value = { ClusterData };
+    ghost Value = { ClusterState };
 
-    ghost view = { λ c. record { nodes = c.nodes; fixed = c.fixed; namespaces = c.namespaces; pods = c.pods; tiers = c.tiers; policies = c.policies; egresses = c.egresses } };
+    ghost view = { λ c. record { cluster = record { nodes = c.nodes.items; fixed = c.fixed; namespaces = c.namespaces.items; pods = c.pods.items; tiers = c.tiers.items; policies = c.policies.items; egresses = c.egresses.items }; places = record { nodes = vec_capacity c.nodes; namespaces = vec_capacity c.namespaces; pods = vec_capacity c.pods; tiers = vec_capacity c.tiers; policies = vec_capacity c.policies; egresses = vec_capacity c.egresses } } };
 
-    ghost invariant = { λ c. IsCluster (record { nodes = c.nodes; fixed = c.fixed; namespaces = c.namespaces; pods = c.pods; tiers = c.tiers; policies = c.policies; egresses = c.egresses }) };
-}
-
-impl Copies for Cluster {
-    ghost exact = { λ x y h. Prim.search (rules, common_steps) };
+    ghost invariant = { λ c. IsState (record { cluster = record { nodes = c.nodes.items; fixed = c.fixed; namespaces = c.namespaces.items; pods = c.pods.items; tiers = c.tiers.items; policies = c.policies.items; egresses = c.egresses.items }; places = record { nodes = vec_capacity c.nodes; namespaces = vec_capacity c.namespaces; pods = vec_capacity c.pods; tiers = vec_capacity c.tiers; policies = vec_capacity c.policies; egresses = vec_capacity c.egresses } }) };
 }
 
 /// The key of the label that every namespace has, with its name (Kubernetes).
 pub const NAME_LABEL: &[u8] = b"kubernetes.io/metadata.name";
 
 // The tiers that are always there.
-fn static_tiers(alloc: Global) -> Result<List<Tier>, NoMemory>
-    ensures { IfOk result (λ tiers. tiers ≡ static_tiers) }
+fn static_tiers(alloc: Global) -> Result<Vec<Tier>, NoMemory>
+    ensures tiers { IfOk result (λ tiers. tiers.items ≡ static_tiers) }
+    ensures places { IfOk result (λ tiers. length tiers.items ≤ vec_capacity tiers) }
 {
     let mut tiers = Vec::with_capacity(alloc, 6)?;
     tiers.push(tier(alloc, b"emergency", 50)?)?;
@@ -57,7 +53,7 @@ fn static_tiers(alloc: Global) -> Result<List<Tier>, NoMemory>
     tiers.push(tier(alloc, b"platform", 200)?)?;
     tiers.push(tier(alloc, b"application", 250)?)?;
     tiers.push(tier(alloc, b"baseline", 253)?)?;
-    Ok(List::of(tiers))
+    Ok(tiers)
 }
 
 fn tier(alloc: Global, name: &[u8], priority: u16) -> Result<Tier, NoMemory>
@@ -69,106 +65,95 @@ fn tier(alloc: Global, name: &[u8], priority: u16) -> Result<Tier, NoMemory>
     })
 }
 
-// Whether the very thing stands at its key.
-fn is_there<T: Keyed + Same>(items: &[T], item: &T) -> bool
-    requires { Ascends T.key T.Key.cmp items.now }
-    ensures { result ≡ is_there (is_same T.row.coded) item.now (found (λ x. T.Key.cmp (T.key x) (T.key item.now)) items.now) }
-{
-    match cl_types::find(items, item.key()) {
-        Some(there) => there.same(item),
-        None => false,
-    }
-}
-
-// Puts the item at its key, in place of what stood there, and tells whether that makes a difference.
-fn place<T: Keyed + Same + Drop>(items: &mut Vec<T>, item: T) -> Result<Applied, NoMemory>
-    requires { Ascends T.key T.Key.cmp items.old.items }
-    ensures ok { IfOk result (λ applied. placed (is_same T.row.coded) (λ x. T.Key.cmp (T.key x) (T.key item)) item items.old.items ≡ record { items = items.new.items; applied = applied }) }
-    ensures err { OnErr result (items.new.items ≡ items.old.items) }
-    ensures ascends { Ascends T.key T.Key.cmp items.new.items }
-{
-    if is_there(items.as_slice(), &item) {
-        return Ok(Applied::Unchanged);
-    }
-    cl_types::put(items, item)?;
-    Ok(Applied::Changed)
-}
-
 impl Cluster {
-    ghost use Rattle.cluster_objects.specs.Apply.{apply, put_node, put_pod, address_taker, unless_taken, put_policy, Follows};
     ghost use Rattle.cluster_objects.specs.Cluster.{no_objects};
-    ghost use Rattle.cluster_objects.specs.Pod.{counts};
     ghost use Rattle.cluster_objects.specs.Groups.{in_group, ns_labels};
-    ghost use Rattle.cluster_objects.specs.Pod.{has_address};
+    ghost use Rattle.cluster_objects.specs.Pod.{counts, has_address};
     ghost use Rattle.label_select.specs.Selection.{selects};
 
     /// The static tiers and nothing else, with the nodes not fixed.
     pub fn new(alloc: Global) -> Result<Cluster, NoMemory>
-        ensures { IfOk result (λ c. c ≡ no_objects) }
+        ensures { IfOk result (λ c. c.cluster ≡ no_objects) }
     {
         Ok(Cluster {
-            nodes: List::new(alloc),
+            nodes: Vec::new(alloc),
             fixed: false,
-            namespaces: List::new(alloc),
-            pods: List::new(alloc),
+            namespaces: Vec::new(alloc),
+            pods: Vec::new(alloc),
             tiers: static_tiers(alloc)?,
-            policies: List::new(alloc),
-            egresses: List::new(alloc),
+            policies: Vec::new(alloc),
+            egresses: Vec::new(alloc),
+        })
+    }
+
+    /// An equal cluster. It may have fewer places.
+    pub fn copy(&self) -> Result<Cluster, NoMemory>
+        ensures { IfOk result (λ c. c.cluster ≡ self.now.cluster) }
+    {
+        let alloc = *self.tiers.allocator();
+        Ok(Cluster {
+            nodes: copied(alloc, self.nodes.as_slice())?,
+            fixed: self.fixed,
+            namespaces: copied(alloc, self.namespaces.as_slice())?,
+            pods: copied(alloc, self.pods.as_slice())?,
+            tiers: copied(alloc, self.tiers.as_slice())?,
+            policies: copied(alloc, self.policies.as_slice())?,
+            egresses: copied(alloc, self.egresses.as_slice())?,
         })
     }
 
     /// The nodes, by name.
-    pub fn nodes(&self) -> &List<NodeInfo>
-        ensures { result.now ≡ self.now.nodes }
+    pub fn nodes(&self) -> &[NodeInfo]
+        ensures { result.now ≡ self.now.cluster.nodes }
     {
-        &self.nodes
+        self.nodes.as_slice()
     }
 
     /// Whether no more node can come.
     pub fn fixed(&self) -> bool
-        ensures { result ≡ self.now.fixed }
+        ensures { result ≡ self.now.cluster.fixed }
     {
         self.fixed
     }
 
     /// The pods, by namespace and name.
-    pub fn pods(&self) -> &List<Pod>
-        ensures { result.now ≡ self.now.pods }
+    pub fn pods(&self) -> &[Pod]
+        ensures { result.now ≡ self.now.cluster.pods }
     {
-        &self.pods
+        self.pods.as_slice()
     }
 
     /// The tiers, by priority.
-    pub fn tiers(&self) -> &List<Tier>
-        ensures { result.now ≡ self.now.tiers }
+    pub fn tiers(&self) -> &[Tier]
+        ensures { result.now ≡ self.now.cluster.tiers }
     {
-        &self.tiers
+        self.tiers.as_slice()
     }
 
     /// The policies, by kind, namespace and name.
-    pub fn policies(&self) -> &List<Policy>
-        ensures { result.now ≡ self.now.policies }
+    pub fn policies(&self) -> &[Policy]
+        ensures { result.now ≡ self.now.cluster.policies }
     {
-        &self.policies
+        self.policies.as_slice()
     }
 
     /// The Egresses, by name.
-    pub fn egresses(&self) -> &List<EgressObj>
-        ensures { result.now ≡ self.now.egresses }
+    pub fn egresses(&self) -> &[EgressObj]
+        ensures { result.now ≡ self.now.cluster.egresses }
     {
-        &self.egresses
+        self.egresses.as_slice()
     }
 
     /// The counting pod that has the address.
     pub fn pod_at(&self, a: Addr) -> Option<&Pod>
-        ensures { option_copied result ≡ find (λ p. counts p && has_address a p) self.now.pods }
+        ensures { option_copied result ≡ find (λ p. counts p && has_address a p) self.now.cluster.pods }
     {
         counting_pod_at(self.pods.as_slice(), a)
     }
 
     /// Whether the group contains the pod.
     pub fn in_group(&self, g: &GroupKey, p: &Pod) -> bool
-        ensures { result ≡ in_group self.now g.now p.now }
+        ensures { result ≡ in_group self.now.cluster g.now p.now }
     {
         let namespace = &p.key.namespace;
         let in_scope = match &g.scope {
@@ -180,59 +165,12 @@ impl Cluster {
 
     // Whether the selector selects the labels of the namespace.
     fn selects_namespace(&self, selector: &Selector, name: &Text) -> bool
-        ensures { result ≡ selects selector.now (ns_labels self.now name.now) }
+        ensures { result ≡ selects selector.now (ns_labels self.now.cluster name.now) }
     {
         let labels = match cl_types::find(self.namespaces.as_slice(), name) {
             Some(namespace) => Some(&namespace.labels),
             None => None,
         };
         selector.selects_with(labels, NAME_LABEL, name)
-    }
-
-    /// Makes a change. A refusal leaves the cluster as it was.
-    pub fn try_apply(&mut self, c: Change) -> Result<Applied, ClusterRefusal>
-        ensures { Follows (apply self.old c) self.old result self.new }
-    {
-        match c {
-            Change::Put(Object::Node(node)) => self.put_node(node),
-            Change::Put(Object::Pod(pod)) => self.put_pod(pod),
-            Change::Put(Object::Policy(policy)) => self.put_policy(policy),
-        }
-    }
-
-    fn put_node(&mut self, node: NodeInfo) -> Result<Applied, ClusterRefusal>
-        ensures { Follows (put_node self.old node) self.old result self.new }
-    {
-        if self.fixed && !is_there(self.nodes.as_slice(), &node) {
-            return Err(ClusterRefusal::NodesFixed);
-        }
-        Ok(place(self.nodes.vec_mut(), node)?)
-    }
-
-    fn put_pod(&mut self, pod: Pod) -> Result<Applied, ClusterRefusal>
-        ensures { Follows (put_pod self.old pod) self.old result self.new }
-    {
-        match address_taker(self.pods.as_slice(), &pod) {
-            Some(other) => Err(ClusterRefusal::AddressInUse(other.key.copy()?)),
-            None => self.put_free_pod(pod),
-        }
-    }
-
-    // Puts a pod whose addresses no other has.
-    fn put_free_pod(&mut self, pod: Pod) -> Result<Applied, ClusterRefusal>
-        requires { address_taker self.old pod ≡ None }
-        ensures { Follows (unless_taken None self.old pod) self.old result self.new }
-    {
-        let applied = place(self.pods.vec_mut(), pod)?;
-        self.fixed = true;
-        Ok(applied)
-    }
-
-    fn put_policy(&mut self, policy: Policy) -> Result<Applied, ClusterRefusal>
-        ensures { Follows (put_policy self.old policy) self.old result self.new }
-    {
-        let applied = place(self.policies.vec_mut(), policy)?;
-        self.fixed = true;
-        Ok(applied)
     }
 }

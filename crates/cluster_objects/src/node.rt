@@ -52,6 +52,14 @@ pub struct Namespace {
     pub labels: Labels,
 }
 
+impl Model for Namespace {
+    ghost use Rattle.cluster_objects.specs.Node.{NamespaceData};
+
+    ghost Value = { NamespaceData };
+
+    ghost view = { λ x. record { name = x.name; labels = x.labels } };
+}
+
 impl Keyed for Namespace {
     type Key = Text;
 
@@ -64,4 +72,10 @@ impl Keyed for Namespace {
 
 impl Copies for Namespace {
     ghost exact = { λ x y h. Prim.search (rules, common_steps) };
+}
+
+impl Same for Namespace {
+    fn same(&self, other: &Namespace) -> bool {
+        self.name.same(&other.name) && self.labels.same(&other.labels)
+    }
 }

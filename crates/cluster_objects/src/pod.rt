@@ -2,7 +2,7 @@ ghost use Rattle.std.proofs.Common.{rules};
 ghost use Rattle.std.proofs.lemmas.Grind.{common_steps};
 ghost use Rattle.std.specs.Prelude.{◌≡◌, ◌&&◌, IfOk, IsTrue, ◌↔◌, find, option_copied, None, if◌then◌else◌};
 ghost use Rattle.std.specs.List.{list_any};
-ghost use Rattle.cluster_objects.specs.Apply.{takes_address};
+ghost use Rattle.cluster_objects.specs.Refusals.{takes_address};
 ghost use Rattle.cluster_objects.specs.Pod.{has_address};
 ghost use Rattle.cluster_objects.specs.Pod.{counts};
 

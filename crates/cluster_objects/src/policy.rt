@@ -17,6 +17,14 @@ pub struct Tier {
     pub priority: u16,
 }
 
+impl Model for Tier {
+    ghost use Rattle.cluster_objects.specs.Tier.{TierData};
+
+    ghost Value = { TierData };
+
+    ghost view = { λ x. record { name = x.name; priority = x.priority } };
+}
+
 impl Keyed for Tier {
     type Key = u16;
 
@@ -29,6 +37,12 @@ impl Keyed for Tier {
 
 impl Copies for Tier {
     ghost exact = { λ x y h. Prim.search (rules, common_steps) };
+}
+
+impl Same for Tier {
+    fn same(&self, other: &Tier) -> bool {
+        self.name.same(&other.name) && self.priority == other.priority
+    }
 }
 
 /// A block of peers: the addresses in `cidr` that are in no except.

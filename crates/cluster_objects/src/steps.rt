@@ -22,6 +22,9 @@ pub enum Stage {
 /// The number of the tier Baseline.
 pub const BASELINE_TIER: u16 = 253;
 
+/// The tier number in the keys of rules of Kubernetes policies, which are in no tier.
+pub const KUBE_TIER: u16 = 255;
+
 /// Whether a policy of this kind is a Kubernetes NetworkPolicy.
 pub fn is_kube(kind: PolicyKind) -> bool
     ensures { result ≡ is_kube kind }

@@ -23,16 +23,15 @@ fn any_block_holds(blocks: &[Prefix], a: Addr) -> bool
 }
 
 fn group_contains(c: &Cluster, group: &GroupKey, a: Addr) -> bool
-    ensures { result ≡ group_contains c.now group.now a }
+    ensures { result ≡ group_contains c.now.cluster group.now a }
 {
     c.pods()
-        .as_slice()
         .iter()
         .any(|pod| c.in_group(group, pod) && pod.has_address(a))
 }
 
 fn peer_contains(c: &Cluster, a: Addr, peer: &Peer) -> bool
-    ensures { result ≡ peer_contains c.now a peer.now }
+    ensures { result ≡ peer_contains c.now.cluster a peer.now }
 {
     match peer {
         Peer::Group(group) => group_contains(c, group, a),
@@ -43,7 +42,7 @@ fn peer_contains(c: &Cluster, a: Addr, peer: &Peer) -> bool
 
 /// Whether the peers of a rule contain the address.
 pub(crate) fn peers_contain(c: &Cluster, a: Addr, peers: &Option<List<Peer>>) -> bool
-    ensures { result ≡ peers_contain c.now a peers.now }
+    ensures { result ≡ peers_contain c.now.cluster a peers.now }
 {
     match peers {
         None => true,
@@ -52,13 +51,13 @@ pub(crate) fn peers_contain(c: &Cluster, a: Addr, peers: &Option<List<Peer>>) ->
 }
 
 fn any_contains(c: &Cluster, a: Addr, peers: &[Peer]) -> bool
-    ensures { result ≡ list_any (peer_contains c.now a) peers.now }
+    ensures { result ≡ list_any (peer_contains c.now.cluster a) peers.now }
 {
     peers.iter().any(|peer| peer_contains(c, a, peer))
 }
 
 fn peer_contains_pod(c: &Cluster, pod: &Pod, peer: &Peer) -> bool
-    ensures { result ≡ peer_contains_pod c.now pod.now peer.now }
+    ensures { result ≡ peer_contains_pod c.now.cluster pod.now peer.now }
 {
     match peer {
         Peer::Group(group) => c.in_group(group, pod),
@@ -69,7 +68,7 @@ fn peer_contains_pod(c: &Cluster, pod: &Pod, peer: &Peer) -> bool
 
 /// Whether the peers of a rule contain the counting pod, by a group.
 pub(crate) fn peers_contain_pod(c: &Cluster, pod: &Pod, peers: &Option<List<Peer>>) -> bool
-    ensures { result ≡ peers_contain_pod c.now pod.now peers.now }
+    ensures { result ≡ peers_contain_pod c.now.cluster pod.now peers.now }
 {
     match peers {
         None => pod.counts(),
@@ -78,7 +77,7 @@ pub(crate) fn peers_contain_pod(c: &Cluster, pod: &Pod, peers: &Option<List<Peer
 }
 
 fn any_contains_pod(c: &Cluster, pod: &Pod, peers: &[Peer]) -> bool
-    ensures { result ≡ list_any (peer_contains_pod c.now pod.now) peers.now }
+    ensures { result ≡ list_any (peer_contains_pod c.now.cluster pod.now) peers.now }
 {
     peers.iter().any(|peer| peer_contains_pod(c, pod, peer))
 }

@@ -10,7 +10,7 @@ use cl_types::{Dir, Question};
 use cluster_objects::{Cluster, Pod, Policy, Rule, Stage, earlier, is_kube};
 
 fn applies(c: &Cluster, policy: &Policy, pod: &Pod) -> bool
-    ensures { result ≡ applies c.now policy.now pod.now }
+    ensures { result ≡ applies c.now.cluster policy.now pod.now }
 {
     policy
         .applied
@@ -20,7 +20,7 @@ fn applies(c: &Cluster, policy: &Policy, pod: &Pod) -> bool
 }
 
 fn rule_matches(c: &Cluster, policy: &Policy, rule: &Rule, pod: &Pod, q: &Question) -> bool
-    ensures { result ≡ rule_matches c.now policy.now rule.now pod.now q.now }
+    ensures { result ≡ rule_matches c.now.cluster policy.now rule.now pod.now q.now }
 {
     rule.key.dir.is(q.dir)
         && applies(c, policy, pod)
@@ -38,7 +38,7 @@ fn first_of_policy<'c>(
     after: Option<&'c Rule>,
 ) -> Option<&'c Rule>
     ensures { (later : List Rule) → option_copied after.entry ≡ first rule_key later
-        → option_copied result ≡ first rule_key (filter (λ r. in_stage stage policy.now.key.kind r.key && rule_matches c.now policy.now r pod.now q.now) policy.now.rules ++ later) }
+        → option_copied result ≡ first rule_key (filter (λ r. in_stage stage policy.now.key.kind r.key && rule_matches c.now.cluster policy.now r pod.now q.now) policy.now.rules ++ later) }
 {
     let rules = policy.rules.as_slice();
     let mut found = after;
@@ -59,7 +59,7 @@ fn is_wanted(
     q: &Question,
     stage: Stage,
 ) -> bool
-    ensures { result ≡ (in_stage stage policy.now.key.kind rule.now.key && rule_matches c.now policy.now rule.now pod.now q.now) }
+    ensures { result ≡ (in_stage stage policy.now.key.kind rule.now.key && rule_matches c.now.cluster policy.now rule.now pod.now q.now) }
 {
     stage.includes(policy.key.kind, &rule.key) && rule_matches(c, policy, rule, pod, q)
 }
@@ -71,9 +71,9 @@ pub(crate) fn first_rule<'c>(
     q: &Question,
     stage: Stage,
 ) -> Option<&'c Rule>
-    ensures { option_copied result ≡ first rule_key (rules_with c.now pod.now q.now stage) }
+    ensures { option_copied result ≡ first rule_key (rules_with c.now.cluster pod.now q.now stage) }
 {
-    let policies = c.policies().as_slice();
+    let policies = c.policies();
     let mut found = None;
     for i in (0..policies.len()).rev() {
         found = first_of_policy(c, &policies[i], pod, q, stage, found);
@@ -92,9 +92,9 @@ fn isolates(policy: &Policy, dir: Dir) -> bool
 
 /// Whether a Kubernetes policy isolates the pod in the direction.
 pub(crate) fn is_isolated(c: &Cluster, pod: &Pod, dir: Dir) -> bool
-    ensures { result ≡ is_isolated c.now pod.now dir }
+    ensures { result ≡ is_isolated c.now.cluster pod.now dir }
 {
-    c.policies().as_slice().iter().any(|policy| is_kube(policy.key.kind)
+    c.policies().iter().any(|policy| is_kube(policy.key.kind)
         && isolates(policy, dir)
         && applies(c, policy, pod))
 }

@@ -32,15 +32,15 @@ fn any_is_port(q: &Question, name: &PortName, ports: &[NamedPort]) -> bool
 }
 
 fn peer_defines(c: &Cluster, rule: &Rule, q: &Question, name: &PortName) -> bool
-    ensures { result ≡ list_any (λ d. has_address q.now.peer d && peers_contain_pod c.now d rule.now.peers && defines q.now name.now d) c.now.pods }
+    ensures { result ≡ list_any (λ d. has_address q.now.peer d && peers_contain_pod c.now.cluster d rule.now.peers && defines q.now name.now d) c.now.cluster.pods }
 {
-    c.pods().as_slice().iter().any(|pod| pod.has_address(q.peer)
+    c.pods().iter().any(|pod| pod.has_address(q.peer)
         && peers_contain_pod(c, pod, &rule.peers)
         && defines(q, name, pod))
 }
 
 fn name_matches(c: &Cluster, rule: &Rule, pod: &Pod, q: &Question, name: &PortName) -> bool
-    ensures { result ≡ name_matches c.now rule.now pod.now q.now name.now }
+    ensures { result ≡ name_matches c.now.cluster rule.now pod.now q.now name.now }
 {
     match q.dir {
         Dir::Ingress => defines(q, name, pod),
@@ -49,7 +49,7 @@ fn name_matches(c: &Cluster, rule: &Rule, pod: &Pod, q: &Question, name: &PortNa
 }
 
 fn names_match(c: &Cluster, rule: &Rule, pod: &Pod, q: &Question) -> bool
-    ensures { result ≡ list_any (name_matches c.now rule.now pod.now q.now) rule.now.named }
+    ensures { result ≡ list_any (name_matches c.now.cluster rule.now pod.now q.now) rule.now.named }
 {
     rule.named
         .as_slice()
@@ -59,7 +59,7 @@ fn names_match(c: &Cluster, rule: &Rule, pod: &Pod, q: &Question) -> bool
 
 /// Whether a rule matches the traffic of the question.
 pub(crate) fn services_match(c: &Cluster, rule: &Rule, pod: &Pod, q: &Question) -> bool
-    ensures { result ≡ services_match c.now rule.now pod.now q.now rule.now.services }
+    ensures { result ≡ services_match c.now.cluster rule.now pod.now q.now rule.now.services }
 {
     match &rule.services {
         None => true,

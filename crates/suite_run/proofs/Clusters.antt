@@ -1,205 +1,325 @@
 -- The clusters of the revisions.
-use Rattle.std.proofs.Common.{◌≡◌, ℕ, ◌+◌, Bool, true, false, ◌&&◌, Result, Ok, Err, List, [], ◌∷◌, length, if◌then◌else◌, find, None, Some, Option, refl, ap, sym, subst, ◌∙◌, arith, ◌⊎◌, inl, inr, true≢false}
+use Rattle.std.proofs.Common.{◌≡◌, ℕ, ◌+◌, Bool, true, false, not, ◌&&◌, ◌||◌, Result, Ok, Err, List, [], ◌∷◌, length, if◌then◌else◌, refl, ap, sym, subst, ◌∙◌, arith, ◌⊎◌, inl, inr, true≢false}
 use Rattle.cluster_objects.specs.declared.change.Applied.{Applied}
-use Rattle.cluster_objects.specs.declared.change.Applied.TheVariants.{Changed, Unchanged}
 use Rattle.cluster_objects.specs.declared.change.Change.{Change}
-use Rattle.cluster_objects.specs.declared.change.Change.TheVariants.{Put}
 use Rattle.cluster_objects.specs.declared.change.ClusterRefusal.{ClusterRefusal}
 use Rattle.cluster_objects.specs.declared.change.ClusterRefusal.TheVariants as cluster
-use Rattle.cluster_objects.specs.declared.change.Object.TheVariants as object
-use Rattle.cl_types.specs.Ascending.{found, put}
-use Rattle.cl_types.specs.Equality.{is_same}
 use Rattle.cl_types.specs.Judgement.{Judgement}
 use Rattle.cl_types.specs.declared.question.Question.{Question}
-use Rattle.cluster_objects.specs.declared.node.NodeInfo as node
-use Rattle.cluster_objects.specs.declared.pod.Pod as pod
-use Rattle.cluster_objects.specs.declared.policy.Policy as policy
-use Rattle.cluster_objects.specs.Apply.{Placed, makes_difference, leaves, after, and_then, one_changed, apply, is_there, at_node, at_pod, at_policy, takes_address, unless_taken, address_taker, Outcome as Applying}
+use Rattle.cluster_objects.specs.Apply.{Outcome, makes_difference}
+use Rattle.cluster_objects.specs.Changes.{after, and_then, apply, is_node, joined, Outcomes}
 use Rattle.cluster_objects.specs.Evaluation.{side}
 use Rattle.cluster_objects.specs.Node.{NodeData}
-use Rattle.cluster_objects.specs.Pod.{PodData, counts}
-use Rattle.cluster_objects.specs.Policy.{PolicyData}
 use Rattle.cluster_objects.specs.Cluster.{ClusterData, no_objects}
-use Rattle.policy_reader.specs.declared.item.Control.TheVariants.{Ask}
 use Rattle.suite_run.specs.declared.item.Refusal.TheVariants.{NoNode}
 use Rattle.suite_run.specs.declared.item.Item.{Item}
-use Rattle.suite_run.specs.declared.item.Item.TheVariants.{Object, Control, Blank, Refused}
-use Rattle.suite_run.specs.declared.world.World.{World}
+use Rattle.suite_run.specs.declared.item.Item.TheVariants.{Objects, Ask, Blank, Refused}
 use Rattle.suite_run.specs.Blocks.{world_after}
 use Rattle.suite_run.specs.History.{revised_to, revisions, nodes_alone, last_or, RevisionsAreCounted, TheLastIsTheCluster}
-use Rattle.suite_run.specs.World.{Step, refused, judged, step_of_change, applied, step, item_of, answer, is_listed, is_node, first_world, happens}
+use Rattle.suite_run.specs.World.{WorldData, OutcomeData, Step, refused, judged, told_refusal, step_of_changes, differs, step, item_of, answer, is_listed, first_world, happens}
+use Rattle.suite_run.proofs.ChangeFacts.{ChangeFacts, IsOrdered, change_facts, none_ordered}
+
+ok_is : {A E : Type 0} {x y : A} {r : Result A E} → r ≡ Ok x → r ≡ Ok y → x ≡ y
+ok_is e f = cc
 
 -- ---- counting
 
-abbrev Counts : World → Step → Type 0
-Counts w s = (later : List ClusterData) → s.world.revision + length later ≡ w.revision + length (revised_to s.outcome s.world.cluster later)
-
-count-applied : (node : Bool) (w : World) (a : Applied) → Counts w (applied node w a)
-count-applied node w Unchanged later = refl
-count-applied true w Changed later = refl
-count-applied false w Changed later = omega arith
-
-count-step_of_change : (node : Bool) (w : World) (r : Result Applying ClusterRefusal) → Counts w (step_of_change node w r)
-count-step_of_change node w (Ok o) later = count-applied node (record w { cluster = o.cluster }) o.applied later
-count-step_of_change node w (Err cluster.NodesFixed) later = refl
-count-step_of_change node w (Err (cluster.AddressInUse pod)) later = refl
-count-step_of_change node w (Err cluster.NoMemory) later = refl
+-- what is told of a refusal is no revision
+told_is_none : (refusal : ClusterRefusal) (c : ClusterData) (later : List ClusterData) → revised_to (told_refusal refusal) c later ≡ later
+told_is_none cluster.NoMemory c later = refl
+told_is_none cluster.NodesFixed c later = refl
+told_is_none (cluster.CidrOverlap x) c later = refl
+told_is_none cluster.TierFixed c later = refl
+told_is_none (cluster.TierTaken x) c later = refl
+told_is_none (cluster.TierInUse x) c later = refl
+told_is_none (cluster.NoSuchTier x) c later = refl
+told_is_none (cluster.AddressInUse x) c later = refl
+told_is_none (cluster.TooMany x) c later = refl
+told_is_none (cluster.TooManyMarks x) c later = refl
 
 -- an answer is no revision
 answered : (listed : Bool) (r : ℕ) (j : Judgement) (c : ClusterData) (later : List ClusterData) → revised_to (if listed then judged r j else refused NoNode) c later ≡ later
 answered true r j c later = refl
 answered false r j c later = refl
 
-answer-is-none : (w : World) (node : List ℕ) (question : Question) (later : List ClusterData) → revised_to (answer w node question) w.cluster later ≡ later
-answer-is-none w node question later = answered (is_listed w.cluster node) w.revision (side w.cluster node question) w.cluster later
+answer_is_none : (w : WorldData) (node : List ℕ) (question : Question) (later : List ClusterData) → revised_to (answer w node question) w.cluster later ≡ later
+answer_is_none w node question later = answered (is_listed w.cluster node) w.revision (side w.cluster node question) w.cluster later
 
-count-step : (w : World) (s : Item) → Counts w (step w s)
+abbrev Counts : WorldData → Step → Type 0
+Counts w s = (later : List ClusterData) → s.world.revision + length later ≡ w.revision + length (revised_to s.outcome s.world.cluster later)
+
+count-differs : (node other : Bool) (w : WorldData) → Counts w (differs node other w)
+count-differs node true w later = omega arith
+count-differs true false w later = refl
+count-differs false false w later = refl
+
+count-step_of_changes : (w : WorldData) (r : Result Outcomes ClusterRefusal) → Counts w (step_of_changes w r)
+count-step_of_changes w (Ok o) later = count-differs o.node_changed o.other_changed (record w { cluster = o.cluster }) later
+count-step_of_changes w (Err refusal) later = ap (λ z. w.revision + length z) (sym (told_is_none refusal w.cluster later))
+
+count-step : (w : WorldData) (s : Item) → Counts w (step w s)
 unfolding step
-count-step w (Object change) later = count-step_of_change (is_node change) w (after w.cluster (change ∷ [])) later
-count-step w (Control (Ask node question)) later = ap (λ z. w.revision + length z) (sym (answer-is-none w node question later))
+count-step w (Objects changes) later = count-step_of_changes w (after w.cluster changes) later
+count-step w (Ask node question) later = ap (λ z. w.revision + length z) (sym (answer_is_none w node question later))
 count-step w Blank later = refl
 count-step w (Refused r) later = refl
 
-count-lines : (w : World) (lines : List (List ℕ)) → (world_after w lines).revision ≡ w.revision + length (revisions w lines)
+count-lines : (w : WorldData) (lines : List (List ℕ)) → (world_after w lines).revision ≡ w.revision + length (revisions w lines)
 count-lines w [] = omega arith
 count-lines w (line ∷ lines) = count-lines (happens w line) lines ∙ count-step w (item_of line) (revisions (happens w line) lines)
 
--- ---- once the nodes are fixed
+-- ---- the objects of each kind ascend
 
--- the nodes stay fixed, and the cluster is another only by a revision
-abbrev Late : World → Step → Type 0
-Late w s = (s.world.cluster.fixed ≡ true) × ((later : List ClusterData) → last_or w.cluster (revised_to s.outcome s.world.cluster later) ≡ last_or s.world.cluster later)
+ordered-joined : (change : Change) (applied : Applied) (r : Result Outcomes ClusterRefusal) → ((o : Outcomes) → r ≡ Ok o → IsOrdered o.cluster)
+    → (o : Outcomes) → joined change applied r ≡ Ok o → IsOrdered o.cluster
+ordered-joined change applied (Ok later) h o e = subst (λ (z : Outcomes). IsOrdered z.cluster) (ok_is refl e) (h later refl)
+ordered-joined change applied (Err refusal) h o e = cc
 
--- the clusters are one but after a change that is counted
-abbrev SameUnless : Bool → Applied → ClusterData → ClusterData → Type 0
-SameUnless node Unchanged c d = d ≡ c
-SameUnless true Changed c d = d ≡ c
-SameUnless false Changed c d = d ≡ d
+ordered-and_then : (c : ClusterData) (change : Change) (changes : List Change) (r : Result Outcome ClusterRefusal) → ((o : Outcome) → r ≡ Ok o → ChangeFacts c change o)
+    → ((d : ClusterData) → IsOrdered d → (o : Outcomes) → after d changes ≡ Ok o → IsOrdered o.cluster)
+    → (o : Outcomes) → and_then change r (λ d. after d changes) ≡ Ok o → IsOrdered o.cluster
+ordered-and_then c change changes (Ok first) facts rest =
+    let f = facts first refl in ordered-joined change first.applied (after first.cluster changes) (rest first.cluster f.ordered)
+ordered-and_then c change changes (Err refusal) facts rest = λ o e. cc
 
--- the same of what a change came to
-abbrev LateChange : Bool → ClusterData → Result Applying ClusterRefusal → Type 0
-LateChange node c (Ok o) = (o.cluster.fixed ≡ true) × SameUnless node o.applied c o.cluster
-LateChange node c (Err refusal) = c ≡ c
+ordered-after : (c : ClusterData) → IsOrdered c → (changes : List Change) → (o : Outcomes) → after c changes ≡ Ok o → IsOrdered o.cluster
+ordered-after c u [] o e = subst (λ (z : Outcomes). IsOrdered z.cluster) (ok_is refl e) u
+ordered-after c u (change ∷ changes) o e =
+    ordered-and_then c change changes (apply c change) (λ o e. change_facts c u change o e) (λ d v. ordered-after d v changes) o e
 
--- what a put of one kind leaves, where the thing was there already and where it wasn't
-abbrev either : {T : Type 0} → Bool → List T → List T → Placed T
-either there xs ys = if there then record { items = xs; applied = Unchanged } else record { items = ys; applied = Changed }
+ordered-differs : (node other : Bool) (w : WorldData) → IsOrdered w.cluster → IsOrdered (differs node other w).world.cluster
+ordered-differs node true w u = u
+ordered-differs true false w u = u
+ordered-differs false false w u = u
 
--- a node's put that came to this
-abbrev node_put : Placed NodeData → Bool → ClusterData → Result Applying ClusterRefusal
-node_put p fixed c = if fixed && makes_difference p.applied then Err cluster.NodesFixed else Ok (leaves p (λ nodes. record c { nodes = nodes }))
+ordered-step_of_changes : (w : WorldData) (r : Result Outcomes ClusterRefusal) → IsOrdered w.cluster → ((o : Outcomes) → r ≡ Ok o → IsOrdered o.cluster)
+    → IsOrdered (step_of_changes w r).world.cluster
+ordered-step_of_changes w (Ok o) u h = ordered-differs o.node_changed o.other_changed (record w { cluster = o.cluster }) (h o refl)
+ordered-step_of_changes w (Err refusal) u h = u
 
-late-node : (there fixed : Bool) (c : ClusterData) (nodes : List NodeData) → c.fixed ≡ true → fixed ≡ true → LateChange true c (node_put (either there c.nodes nodes) fixed c)
-late-node true true c nodes h f = (h, refl)
-late-node false true c nodes h f = refl
-late-node there false c nodes h f = absurd (true≢false (sym f))
+ordered-step : (w : WorldData) (s : Item) → IsOrdered w.cluster → IsOrdered (step w s).world.cluster
+unfolding step
+ordered-step w (Objects changes) u = ordered-step_of_changes w (after w.cluster changes) u (ordered-after w.cluster u changes)
+ordered-step w (Ask node question) u = u
+ordered-step w Blank u = u
+ordered-step w (Refused r) u = u
+
+-- ---- lists of changes once the nodes are fixed
+
+or_false : (a b : Bool) → (a || b) ≡ false → (a ≡ false) × (b ≡ false)
+or_false true b e = absurd (true≢false e)
+or_false false b e = (refl, e)
 
 refixed : (c : ClusterData) → c.fixed ≡ true → record c { fixed = true } ≡ c
 refixed c h = ap (λ (z : Bool). record c { fixed = z }) (sym h)
 
-late-pod : (there : Bool) (c : ClusterData) (pods : List PodData) → c.fixed ≡ true
-    → LateChange false c (Ok (leaves (either there c.pods pods) (λ ps. record c { fixed = true; pods = ps })))
-late-pod true c pods h = (refl, refixed c h)
-late-pod false c pods h = (refl, refl)
+-- a change that makes no difference leaves a cluster whose nodes are fixed
+unchanged_late : (c : ClusterData) (change : Change) (o : Outcome) → ChangeFacts c change o → c.fixed ≡ true → makes_difference o.applied ≡ false → o.cluster ≡ c
+unchanged_late c change o f fixed none = f.unchanged none ∙ (ap (λ (z : Bool). record c { fixed = z }) (f.fixed_stays fixed) ∙ refixed c fixed)
 
-late-policy : (there : Bool) (c : ClusterData) (policies : List PolicyData) → c.fixed ≡ true
-    → LateChange false c (Ok (leaves (either there c.policies policies) (λ ps. record c { fixed = true; policies = ps })))
-late-policy true c policies h = (refl, refixed c h)
-late-policy false c policies h = (refl, refl)
+late_same : (c : ClusterData) (change : Change) (o : Outcome) → ChangeFacts c change o → c.fixed ≡ true
+    → (node : Bool) → is_node change ≡ node → (not node && makes_difference o.applied) ≡ false → o.cluster ≡ c
+late_same c change o f fixed true e none = unchanged_late c change o f fixed (f.late fixed e)
+late_same c change o f fixed false e none = unchanged_late c change o f fixed none
 
-late-taken : (taker : Option PodData) (c : ClusterData) (p : PodData) → c.fixed ≡ true → LateChange false c (unless_taken taker c p)
-late-taken None c p h = late-pod (is_there (is_same pod.the_code) p (found (at_pod p.key) c.pods)) c (put (at_pod p.key) p c.pods) h
-late-taken (Some other) c p h = refl
+-- The nodes stay, and the cluster is another only by a change that isn't a Node's.
+pub record StaysLate (c : ClusterData) (o : Outcomes) : Type 0 where
+  pub fixed : o.cluster.fixed ≡ true
+  pub nodes : o.cluster.nodes ≡ c.nodes
+  pub same : o.other_changed ≡ false → o.cluster ≡ c
 
-late-apply : (c : ClusterData) (change : Change) → c.fixed ≡ true → LateChange (is_node change) c (apply c change)
-late-apply c (Put (object.Node n)) h = late-node (is_there (is_same node.the_code) n (found (at_node n.name) c.nodes)) c.fixed c (put (at_node n.name) n c.nodes) h h
-late-apply c (Put (object.Pod p)) h = late-taken (address_taker c p) c p h
-late-apply c (Put (object.Policy p)) h = late-policy (is_there (is_same policy.the_code) p (found (at_policy p.key) c.policies)) c (put (at_policy p.key) p c.policies) h
+abbrev IsLate : ClusterData → Result Outcomes ClusterRefusal → Type 0
+IsLate c r = (o : Outcomes) → r ≡ Ok o → StaysLate c o
 
-late-applied : (node : Bool) (w : World) (a : Applied) (d : ClusterData) → d.fixed ≡ true → SameUnless node a w.cluster d
-    → Late w (applied node (record w { cluster = d }) (one_changed a Unchanged))
-late-applied node w Unchanged d h e = (h, λ later. ap (λ z. last_or z later) (sym e))
-late-applied true w Changed d h e = (h, λ later. ap (λ z. last_or z later) (sym e))
-late-applied false w Changed d h e = (h, λ later. refl)
+late-joined : (c d : ClusterData) (change : Change) (applied : Applied) (r : Result Outcomes ClusterRefusal)
+    → d.nodes ≡ c.nodes → ((not (is_node change) && makes_difference applied) ≡ false → d ≡ c) → IsLate d r → IsLate c (joined change applied r)
+late-joined c d change applied (Ok later) nodes same l o e =
+    let s = l later refl in
+    subst (StaysLate c) (ok_is refl e) (record {
+      fixed = s.fixed;
+      nodes = s.nodes ∙ nodes;
+      same = λ none. let both = or_false _ _ none in s.same both.1 ∙ same both.0;
+    })
+late-joined c d change applied (Err refusal) nodes same l o e = cc
 
-late-step_of_change : (node : Bool) (w : World) (r : Result Applying ClusterRefusal) → w.cluster.fixed ≡ true → LateChange node w.cluster r
-    → Late w (step_of_change node w (and_then r (λ c. Ok (record { cluster = c; applied = Unchanged }))))
-late-step_of_change node w (Ok o) h l = late-applied node w o.applied o.cluster l.0 l.1
-late-step_of_change node w (Err cluster.NodesFixed) h l = (h, λ later. refl)
-late-step_of_change node w (Err (cluster.AddressInUse pod)) h l = (h, λ later. refl)
-late-step_of_change node w (Err cluster.NoMemory) h l = (h, λ later. refl)
+late-and_then : (c : ClusterData) (change : Change) (changes : List Change) (r : Result Outcome ClusterRefusal) → c.fixed ≡ true
+    → ((o : Outcome) → r ≡ Ok o → ChangeFacts c change o)
+    → ((d : ClusterData) → IsOrdered d → d.fixed ≡ true → IsLate d (after d changes)) → IsLate c (and_then change r (λ d. after d changes))
+late-and_then c change changes (Ok o) fixed facts rest =
+    let f = facts o refl in
+    late-joined c o.cluster change o.applied (after o.cluster changes) (f.nodes_stay fixed) (late_same c change o f fixed (is_node change) refl) (rest o.cluster f.ordered (f.fixed_stays fixed))
+late-and_then c change changes (Err refusal) fixed facts rest = λ o e. cc
 
-late-step : (w : World) (s : Item) → w.cluster.fixed ≡ true → Late w (step w s)
-unfolding step
-late-step w (Object change) h = late-step_of_change (is_node change) w (apply w.cluster change) h (late-apply w.cluster change h)
-late-step w (Control (Ask node question)) h = (h, λ later. ap (last_or w.cluster) (answer-is-none w node question later))
-late-step w Blank h = (h, λ later. refl)
-late-step w (Refused r) h = (h, λ later. refl)
+late-after : (c : ClusterData) → IsOrdered c → (changes : List Change) → c.fixed ≡ true → IsLate c (after c changes)
+late-after c u [] fixed o e = subst (StaysLate c) (ok_is refl e) (record { fixed = fixed; nodes = refl; same = λ none. refl })
+late-after c u (change ∷ changes) fixed o e =
+    late-and_then c change changes (apply c change) fixed (λ o e. change_facts c u change o e) (λ d v f. late-after d v changes f) o e
 
-late-lines : (w : World) (lines : List (List ℕ)) → w.cluster.fixed ≡ true → last_or w.cluster (revisions w lines) ≡ (world_after w lines).cluster
-late-lines w [] h = refl
-late-lines w (line ∷ lines) h =
-    let s = late-step w (item_of line) h in
-    s.1 (revisions (happens w line) lines) ∙ late-lines (happens w line) lines s.0
-
--- ---- before
+-- ---- lists of changes before
 
 abbrev early : List NodeData → ClusterData
 early nodes = record no_objects { nodes = nodes }
 
--- only nodes are there still, or the first revision was made
+-- nothing but nodes is there, and they aren't fixed
+abbrev IsEarly : ClusterData → Type 0
+IsEarly c = c ≡ early c.nodes
+
+-- nothing but nodes is there, and they are fixed
+abbrev IsBare : ClusterData → Type 0
+IsBare c = c ≡ nodes_alone c
+
+-- the nodes aren't fixed still, or they are now
+abbrev HasTurned : Outcomes → Type 0
+HasTurned o = ((o.other_changed ≡ false) × IsEarly o.cluster) ⊎ ((o.cluster.fixed ≡ true) × (o.other_changed ≡ false → IsBare o.cluster))
+
+abbrev IsTurned : Result Outcomes ClusterRefusal → Type 0
+IsTurned r = (o : Outcomes) → r ≡ Ok o → HasTurned o
+
+-- a change of a Node leaves the nodes open
+early_node : (c : ClusterData) (o : Outcome) (change : Change) → ChangeFacts c change o → IsEarly c → is_node change ≡ true → IsEarly o.cluster
+early_node c o change f e node = f.node_alone node ∙ (ap (λ (z : ClusterData). record z { nodes = o.cluster.nodes }) e)
+
+turned-node : (change : Change) (applied : Applied) (r : Result Outcomes ClusterRefusal) → is_node change ≡ true → IsTurned r → IsTurned (joined change applied r)
+turned-node change applied (Ok later) node t o e =
+    subst HasTurned (ap (λ (z : Bool). record { cluster = later.cluster; node_changed = (is_node change && makes_difference applied) || later.node_changed; other_changed = (not z && makes_difference applied) || later.other_changed }) (sym node) ∙ ok_is refl e)
+    (t later refl)
+turned-node change applied (Err refusal) node t o e = cc
+
+-- a change of another kind fixes the nodes
+turned-other : (c : ClusterData) (first : Outcome) (change : Change) (r : Result Outcomes ClusterRefusal) → ChangeFacts c change first → IsEarly c
+    → is_node change ≡ false → IsLate first.cluster r → IsTurned (joined change first.applied r)
+turned-other c first change (Ok later) f early node l o e =
+    let s = l later refl in
+    let bare : makes_difference first.applied ≡ false → IsBare first.cluster = λ none.
+    f.unchanged none ∙ (ap (λ (z : Bool). record c { fixed = z }) (f.fixes node) ∙ (ap (λ (z : ClusterData). record z { fixed = true }) early ∙ ap nodes_alone (sym (f.unchanged none)))) in
+    subst HasTurned (ok_is refl e) (inr (
+      s.fixed,
+      λ none.
+          let both = or_false _ _ none in
+          let none_first : makes_difference first.applied ≡ false = ap (λ z. not z && makes_difference first.applied) (sym node) ∙ both.0 in
+          s.same both.1 ∙ (bare none_first ∙ ap nodes_alone (sym (s.same both.1))),
+    ))
+turned-other c first change (Err refusal) f early node l o e = cc
+
+turned-and_then : (c : ClusterData) (change : Change) (changes : List Change) (r : Result Outcome ClusterRefusal) → IsEarly c
+    → ((o : Outcome) → r ≡ Ok o → ChangeFacts c change o)
+    → ((d : ClusterData) → IsOrdered d → IsEarly d → IsTurned (after d changes))
+    → (node : Bool) → is_node change ≡ node → IsTurned (and_then change r (λ d. after d changes))
+turned-and_then c change changes (Ok o) early facts rest true e =
+    let f = facts o refl in turned-node change o.applied (after o.cluster changes) e (rest o.cluster f.ordered (early_node c o change f early e))
+turned-and_then c change changes (Ok o) early facts rest false e =
+    let f = facts o refl in
+    turned-other c o change (after o.cluster changes) f early e (late-after o.cluster f.ordered changes (f.fixes e))
+turned-and_then c change changes (Err refusal) early facts rest node e = λ o x. cc
+
+turned-after : (c : ClusterData) → IsOrdered c → (changes : List Change) → IsEarly c → IsTurned (after c changes)
+turned-after c u [] e o h = subst HasTurned (ok_is refl h) (inl (refl, e))
+turned-after c u (change ∷ changes) e o h =
+    turned-and_then c change changes (apply c change) e (λ o h. change_facts c u change o h) (λ d v h. turned-after d v changes h) (is_node change) refl o h
+
+-- ---- lines once the nodes are fixed
+
+-- the line makes no revision
+abbrev NoRevision : Step → Type 0
+NoRevision s = (later : List ClusterData) → revised_to s.outcome s.world.cluster later ≡ later
+
+-- the line makes the revision of its cluster
+abbrev IsRevision : Step → Type 0
+IsRevision s = (x : ClusterData) (later : List ClusterData) → last_or x (revised_to s.outcome s.world.cluster later) ≡ last_or s.world.cluster later
+
+pub record Late (w : WorldData) (s : Step) : Type 0 where
+  pub fixed : s.world.cluster.fixed ≡ true
+  pub nodes : s.world.cluster.nodes ≡ w.cluster.nodes
+  pub last : (later : List ClusterData) → last_or w.cluster (revised_to s.outcome s.world.cluster later) ≡ last_or s.world.cluster later
+
+late-differs : (node other : Bool) (w : WorldData) (d : ClusterData) → d.fixed ≡ true → d.nodes ≡ w.cluster.nodes → (other ≡ false → d ≡ w.cluster)
+    → Late w (differs node other (record w { cluster = d }))
+late-differs node true w d f n same = record { fixed = f; nodes = n; last = λ later. refl }
+late-differs true false w d f n same = record { fixed = f; nodes = n; last = λ later. ap (λ z. last_or z later) (sym (same refl)) }
+late-differs false false w d f n same = record { fixed = f; nodes = n; last = λ later. ap (λ z. last_or z later) (sym (same refl)) }
+
+late-step_of_changes : (w : WorldData) (r : Result Outcomes ClusterRefusal) → w.cluster.fixed ≡ true → IsLate w.cluster r → Late w (step_of_changes w r)
+late-step_of_changes w (Ok o) f l = let s = l o refl in late-differs o.node_changed o.other_changed w o.cluster s.fixed s.nodes s.same
+late-step_of_changes w (Err refusal) f l = record { fixed = f; nodes = refl; last = λ later. ap (last_or w.cluster) (told_is_none refusal w.cluster later) }
+
+late-step : (w : WorldData) (s : Item) → IsOrdered w.cluster → w.cluster.fixed ≡ true → Late w (step w s)
+unfolding step
+late-step w (Objects changes) u f = late-step_of_changes w (after w.cluster changes) f (late-after w.cluster u changes f)
+late-step w (Ask node question) u f = record { fixed = f; nodes = refl; last = λ later. ap (last_or w.cluster) (answer_is_none w node question later) }
+late-step w Blank u f = record { fixed = f; nodes = refl; last = λ later. refl }
+late-step w (Refused r) u f = record { fixed = f; nodes = refl; last = λ later. refl }
+
+late-nodes : (w : WorldData) (lines : List (List ℕ)) → IsOrdered w.cluster → w.cluster.fixed ≡ true → (world_after w lines).cluster.nodes ≡ w.cluster.nodes
+late-nodes w [] u f = refl
+late-nodes w (line ∷ lines) u f =
+    let s = late-step w (item_of line) u f in
+    late-nodes (happens w line) lines (ordered-step w (item_of line) u) s.fixed ∙ s.nodes
+
+late-lines : (w : WorldData) (lines : List (List ℕ)) → IsOrdered w.cluster → w.cluster.fixed ≡ true → last_or w.cluster (revisions w lines) ≡ (world_after w lines).cluster
+late-lines w [] u f = refl
+late-lines w (line ∷ lines) u f =
+    let s = late-step w (item_of line) u f in
+    s.last (revisions (happens w line) lines) ∙ late-lines (happens w line) lines (ordered-step w (item_of line) u) s.fixed
+
+-- ---- lines before
+
+-- the nodes aren't fixed still; or they are now, by a revision or without one
 abbrev Turned : Step → Type 0
 Turned s =
-    ((s.world.cluster ≡ early s.world.cluster.nodes) × ((later : List ClusterData) → revised_to s.outcome s.world.cluster later ≡ later))
-    ⊎ ((s.world.cluster.fixed ≡ true) × ((x : ClusterData) (later : List ClusterData) → last_or x (revised_to s.outcome s.world.cluster later) ≡ last_or s.world.cluster later))
+    (IsEarly s.world.cluster × NoRevision s)
+    ⊎ ((s.world.cluster.fixed ≡ true) × (IsRevision s ⊎ (NoRevision s × IsBare s.world.cluster)))
 
-abbrev early_world : List NodeData → ℕ → World
-early_world nodes r = record { cluster = early nodes; revision = r }
+early-differs : (node other : Bool) (w : WorldData) (d : ClusterData) → IsEarly d → other ≡ false → Turned (differs node other (record w { cluster = d }))
+early-differs node true w d e none = absurd (true≢false none)
+early-differs true false w d e none = inl (e, λ later. refl)
+early-differs false false w d e none = inl (e, λ later. refl)
 
-abbrev turns : Bool → List NodeData → ℕ → Result Applying ClusterRefusal → Step
-turns node nodes r result = step_of_change node (early_world nodes r) (and_then result (λ c. Ok (record { cluster = c; applied = Unchanged })))
+fixed-differs : (node other : Bool) (w : WorldData) (d : ClusterData) → d.fixed ≡ true → (other ≡ false → IsBare d) → Turned (differs node other (record w { cluster = d }))
+fixed-differs node true w d f bare = inr (f, inl (λ x later. refl))
+fixed-differs true false w d f bare = inr (f, inr ((λ later. refl), bare refl))
+fixed-differs false false w d f bare = inr (f, inr ((λ later. refl), bare refl))
 
-early-node : (there : Bool) (nodes nodes' : List NodeData) (r : ℕ) → Turned (turns true nodes r (node_put (either there nodes nodes') false (early nodes)))
-early-node true nodes nodes' r = inl (refl, λ later. refl)
-early-node false nodes nodes' r = inl (refl, λ later. refl)
+turned-differs : (w : WorldData) (o : Outcomes) → HasTurned o → Turned (step_of_changes w (Ok o))
+turned-differs w o (inl e) = early-differs o.node_changed o.other_changed w o.cluster e.1 e.0
+turned-differs w o (inr e) = fixed-differs o.node_changed o.other_changed w o.cluster e.0 e.1
 
-early-pod : (counted : Bool) (nodes : List NodeData) (r : ℕ) (p : PodData)
-    → Turned (turns false nodes r (unless_taken (if counted then find (takes_address p) [] else None) (early nodes) p))
-early-pod true nodes r p = inr (refl, λ x later. refl)
-early-pod false nodes r p = inr (refl, λ x later. refl)
+turned-step_of_changes : (w : WorldData) (r : Result Outcomes ClusterRefusal) → IsEarly w.cluster → IsTurned r → Turned (step_of_changes w r)
+turned-step_of_changes w (Ok o) e t = turned-differs w o (t o refl)
+turned-step_of_changes w (Err refusal) e t = inl (e, λ later. told_is_none refusal w.cluster later)
 
-early-apply : (nodes : List NodeData) (r : ℕ) (change : Change) → Turned (turns (is_node change) nodes r (apply (early nodes) change))
-early-apply nodes r (Put (object.Node n)) = early-node (is_there (is_same node.the_code) n (found (at_node n.name) nodes)) nodes (put (at_node n.name) n nodes) r
-early-apply nodes r (Put (object.Pod p)) = early-pod (counts p) nodes r p
-early-apply nodes r (Put (object.Policy p)) = inr (refl, λ x later. refl)
-
-early-step : (nodes : List NodeData) (r : ℕ) (s : Item) → Turned (step (early_world nodes r) s)
+turned-step : (w : WorldData) (s : Item) → IsOrdered w.cluster → IsEarly w.cluster → Turned (step w s)
 unfolding step
-early-step nodes r (Object change) = early-apply nodes r change
-early-step nodes r (Control (Ask node question)) = inl (refl, λ later. answer-is-none (early_world nodes r) node question later)
-early-step nodes r Blank = inl (refl, λ later. refl)
-early-step nodes r (Refused refusal) = inl (refl, λ later. refl)
+turned-step w (Objects changes) u e = turned-step_of_changes w (after w.cluster changes) e (turned-after w.cluster u changes e)
+turned-step w (Ask node question) u e = inl (e, λ later. answer_is_none w node question later)
+turned-step w Blank u e = inl (e, λ later. refl)
+turned-step w (Refused r) u e = inl (e, λ later. refl)
 
 -- what is still to be shown of a world and lines
-abbrev EndsLast : ClusterData → World → List (List ℕ) → Type 0
-EndsLast x w lines = (world_after w lines).cluster.fixed ≡ true → last_or x (revisions w lines) ≡ (world_after w lines).cluster
+abbrev EndsLast : ClusterData → WorldData → List (List ℕ) → Type 0
+EndsLast c w lines = last_or (nodes_alone c) (revisions w lines) ≡ c
 
-still : (x : ClusterData) (w : World) (lines : List (List ℕ)) → w.cluster ≡ early w.cluster.nodes → EndsLast x (early_world w.cluster.nodes w.revision) lines → EndsLast x w lines
-still x w lines e = subst (λ (c : ClusterData). EndsLast x (record w { cluster = c }) lines) (sym e)
-
-early-line : (x : ClusterData) (w : World) (line : List ℕ) (lines : List (List ℕ)) → Turned (step w (item_of line))
-    → ((nodes : List NodeData) (r : ℕ) → EndsLast x (early_world nodes r) lines) → EndsLast x w (line ∷ lines)
-early-line x w line lines (inl e) rest f =
+early-line : (w : WorldData) (line : List ℕ) (lines : List (List ℕ)) → IsOrdered w.cluster → Turned (step w (item_of line))
+    → (IsEarly (happens w line).cluster → EndsLast (world_after w (line ∷ lines)).cluster (happens w line) lines)
+    → EndsLast (world_after w (line ∷ lines)).cluster w (line ∷ lines)
+early-line w line lines u (inl e) rest =
+    ap (last_or (nodes_alone (world_after w (line ∷ lines)).cluster)) (e.1 (revisions (happens w line) lines)) ∙ rest e.0
+early-line w line lines u (inr (f, inl r)) rest =
+    r (nodes_alone (world_after w (line ∷ lines)).cluster) (revisions (happens w line) lines) ∙ late-lines (happens w line) lines (ordered-step w (item_of line) u) f
+early-line w line lines u (inr (f, inr (n, bare))) rest =
     let w' = happens w line in
-    ap (last_or x) (e.1 (revisions w' lines)) ∙ still x w' lines e.0 (rest w'.cluster.nodes w'.revision) f
-early-line x w line lines (inr e) rest f = e.1 x (revisions (happens w line) lines) ∙ late-lines (happens w line) lines e.0
+    let v = ordered-step w (item_of line) u in
+    let c = (world_after w (line ∷ lines)).cluster in
+    let same : nodes_alone c ≡ w'.cluster = ap (λ (nodes : List NodeData). record no_objects { nodes = nodes; fixed = true }) (late-nodes w' lines v f) ∙ sym bare in
+    ap (last_or (nodes_alone c)) (n (revisions w' lines)) ∙ (ap (λ z. last_or z (revisions w' lines)) same ∙ late-lines w' lines v f)
 
-early-lines : (x : ClusterData) (lines : List (List ℕ)) (nodes : List NodeData) (r : ℕ) → EndsLast x (early_world nodes r) lines
-early-lines x [] nodes r f = absurd (true≢false (sym f))
-early-lines x (line ∷ lines) nodes r f = early-line x (early_world nodes r) line lines (early-step nodes r (item_of line)) (early-lines x lines) f
+early-lines : (w : WorldData) (lines : List (List ℕ)) → IsOrdered w.cluster → IsEarly w.cluster → (world_after w lines).cluster.fixed ≡ true
+    → EndsLast (world_after w lines).cluster w lines
+early-lines w [] u e f = let open_still : w.cluster.fixed ≡ false = ap (λ (z : ClusterData). z.fixed) e in absurd (true≢false (sym f ∙ open_still))
+early-lines w (line ∷ lines) u e f =
+    early-line w line lines u (turned-step w (item_of line) u e) (λ h. early-lines (happens w line) lines (ordered-step w (item_of line) u) h f)
 
 pub revisions_counted : RevisionsAreCounted
 revisions_counted lines = let e = count-lines first_world lines in omega (arith, e)
 
 pub last_is_the_cluster : TheLastIsTheCluster
-last_is_the_cluster lines f = early-lines (nodes_alone (world_after first_world lines).cluster) lines [] 0 f
+last_is_the_cluster lines f = early-lines first_world lines none_ordered refl f

@@ -15,10 +15,9 @@ use Rattle.cl_io.specs.Sink.{SinkState, Endures}
 use Rattle.std.proofs.lemmas.List.Elements.{All-head, All-tail}
 use Rattle.suite_run.specs.declared.status.Status.{Status}
 use Rattle.suite_run.specs.declared.status.Status.TheVariants.{BadWords, OpenFault, ReadFault, WriteFault, NoMemory, InputTooLong}
-use Rattle.suite_run.specs.declared.world.World.{World}
 use Rattle.suite_run.specs.Blocks.{blocks, has_refusal, out_of, any_refused}
 use Rattle.suite_run.specs.Run.{AddsFront, IsFinal, IsAnswered, IsUnopened, IsUnreadable, IsOverfull, Stays, Ran, whole_files, text_due, final_status, fault_status}
-use Rattle.suite_run.specs.World.{input_limit, first_world}
+use Rattle.suite_run.specs.World.{WorldData, input_limit, first_world}
 use Rattle.suite_run.proofs.Running.{start, Faultless, IsTruthful, Running, telling, added, AddsSome-all, due_front, NextFront}
 use Rattle.suite_run.proofs.Wholes.{whole_files-of, whole_files-append}
 
@@ -32,7 +31,7 @@ pub record Leaving (names : List (List ℕ)) (f0 : FilesState) (o0 : SinkState) 
   pub front : IsSome f.taken → AddsFront o0.written (text_due names f0) o.written
 
 -- the blocks so far are the front of what is due
-pub run_front : (names : List (List ℕ)) (f0 : FilesState) (o0 : SinkState) (r : Reading) (f : FilesState) (o : SinkState) (w : World) (refused : Bool) (number : ℕ) → Running names f0 o0 r f o w refused number →
+pub run_front : (names : List (List ℕ)) (f0 : FilesState) (o0 : SinkState) (r : Reading) (f : FilesState) (o : SinkState) (w : WorldData) (refused : Bool) (number : ℕ) → Running names f0 o0 r f o w refused number →
     IsTruthful f → IsSome f.taken → AddsFront o0.written (text_due names f0) o.written
 run_front names f0 o0 r f o w refused number run truthful taken =
     let d = due_front names f0 r f run.done run.kept run.stands truthful taken in
@@ -41,7 +40,7 @@ run_front names f0 o0 r f o w refused number run truthful taken =
     (length text, subst P (sym (ap (take (length text)) d.split ∙ take-append_seam text d.rest)) run.written)
 
 -- nothing more was written
-pub leaving : (names : List (List ℕ)) (f0 : FilesState) (o0 : SinkState) (r : Reading) (f : FilesState) (o : SinkState) (w : World) (refused : Bool) (number : ℕ) → Running names f0 o0 r f o w refused number →
+pub leaving : (names : List (List ℕ)) (f0 : FilesState) (o0 : SinkState) (r : Reading) (f : FilesState) (o : SinkState) (w : WorldData) (refused : Bool) (number : ℕ) → Running names f0 o0 r f o w refused number →
     IsTruthful f → (r' : Reading) (f' : FilesState) → Kept r f r' f' → Leaving names f0 o0 f' o
 leaving names f0 o0 r f o w refused number run truthful r' f' step =
     record {
@@ -53,7 +52,7 @@ leaving names f0 o0 r f o w refused number run truthful r' f' step =
     }
 
 -- a part of the next block was written
-pub part_front : (names : List (List ℕ)) (f0 : FilesState) (o0 : SinkState) (r : Reading) (f : FilesState) (o : SinkState) (w : World) (refused : Bool) (number : ℕ) (run : Running names f0 o0 r f o w refused number)
+pub part_front : (names : List (List ℕ)) (f0 : FilesState) (o0 : SinkState) (r : Reading) (f : FilesState) (o : SinkState) (w : WorldData) (refused : Bool) (number : ℕ) (run : Running names f0 o0 r f o w refused number)
     (text : List ℕ) (count : ℕ) (new : Option (List ℕ)) → count ≤ length text → Adds o.written (take count text) new → NextFront names f0 run.done text → AddsFront o0.written (text_due names f0) new
 part_front names f0 o0 r f o w refused number run text count new within written d =
     let done = blocks 1 first_world run.done in
@@ -139,7 +138,7 @@ write_fault names f0 o0 r done f o leaving kept stands rose =
 -- ---- faults of the input
 
 -- the blocks are those of these lines
-written_lines : (names : List (List ℕ)) (f0 : FilesState) (o0 : SinkState) (r : Reading) (f : FilesState) (o : SinkState) (w : World) (refused : Bool) (number : ℕ) (run : Running names f0 o0 r f o w refused number)
+written_lines : (names : List (List ℕ)) (f0 : FilesState) (o0 : SinkState) (r : Reading) (f : FilesState) (o : SinkState) (w : WorldData) (refused : Bool) (number : ℕ) (run : Running names f0 o0 r f o w refused number)
     (entries : List Entry) → whole_lines entries ≡ run.done → Adds o0.written (out_of entries) o.written
 unfolding out_of
 written_lines names f0 o0 r f o w refused number run entries e =
@@ -174,7 +173,7 @@ pub rose_more : (a b c : ℕ) → a ≤ b → Rose b c → Rose a c
 rose_more a b c h (inl lt) = inl (omega (arith, h, lt))
 rose_more a b c h (inr e) = inr e
 
-pub line_fault : (names : List (List ℕ)) (f0 : FilesState) (o0 : SinkState) (r : Reading) (f : FilesState) (o : SinkState) (w : World) (refused : Bool) (number : ℕ) (run : Running names f0 o0 r f o w refused number) →
+pub line_fault : (names : List (List ℕ)) (f0 : FilesState) (o0 : SinkState) (r : Reading) (f : FilesState) (o : SinkState) (w : WorldData) (refused : Bool) (number : ℕ) (run : Running names f0 o0 r f o w refused number) →
     IsTruthful f → (r' : Reading) (f' : FilesState) → IsTruthful f' → Kept r f r' f' → (stop : LineFault) →
     (stop ≡ fault.Begin → Leaves Unopened r f r' f') → (stop ≡ fault.Read → Leaves Unreadable r f r' f') → (stop ≡ fault.InputTooLong → Leaves Overfull r f r' f') →
     (stop ≡ fault.Begin → (0 < r'.begun) × Rose f.faults f'.faults) → (stop ≡ fault.Read → (0 < r'.begun) × Rose f.faults f'.faults) →
@@ -235,7 +234,7 @@ refused_lines : (entries : List Entry) (done : List (List ℕ)) → whole_lines 
 unfolding any_refused
 refused_lines entries done e = ap (has_refusal first_world) e
 
-pub finished : (names : List (List ℕ)) (f0 : FilesState) (o0 : SinkState) (r : Reading) (f : FilesState) (o : SinkState) (w : World) (refused : Bool) (number : ℕ) (run : Running names f0 o0 r f o w refused number) →
+pub finished : (names : List (List ℕ)) (f0 : FilesState) (o0 : SinkState) (r : Reading) (f : FilesState) (o : SinkState) (w : WorldData) (refused : Bool) (number : ℕ) (run : Running names f0 o0 r f o w refused number) →
     IsTruthful f → (r' : Reading) (f' : FilesState) → Kept r f r' f' → Leaves IsFinished r f r' f' → IsTruthful f' → Ran names f0 o0 (final_status refused) f' o
 finished names f0 o0 r f o w refused number run truthful r' f' step leaves truthful' =
     let kept = Kept-then (start names) r r' f0 f f' run.kept step in

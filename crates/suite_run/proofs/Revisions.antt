@@ -1,30 +1,23 @@
 -- A line makes at most one revision.
-use Rattle.std.proofs.Common.{◌+◌, ◌≤◌, Bool, true, false, Result, Ok, Err, [], ◌∷◌, arith}
-use Rattle.cluster_objects.specs.declared.change.Applied.{Applied}
-use Rattle.cluster_objects.specs.declared.change.Applied.TheVariants.{Changed, Unchanged}
+use Rattle.std.proofs.Common.{◌+◌, ◌≤◌, Bool, true, false, Result, Ok, Err, arith}
 use Rattle.cluster_objects.specs.declared.change.ClusterRefusal.{ClusterRefusal}
-use Rattle.cluster_objects.specs.declared.change.ClusterRefusal.TheVariants as cluster
-use Rattle.cluster_objects.specs.Apply.{after, Outcome}
-use Rattle.policy_reader.specs.declared.item.Control.TheVariants.{Ask}
+use Rattle.cluster_objects.specs.Changes.{after, Outcomes}
 use Rattle.suite_run.specs.declared.item.Item.{Item}
-use Rattle.suite_run.specs.declared.item.Item.TheVariants.{Object, Control, Blank, Refused}
-use Rattle.suite_run.specs.declared.world.World.{World}
-use Rattle.suite_run.specs.World.{step, step_of_change, applied, is_node}
+use Rattle.suite_run.specs.declared.item.Item.TheVariants.{Objects, Ask, Blank, Refused}
+use Rattle.suite_run.specs.World.{WorldData, step, step_of_changes, differs}
 
-revision-applied : (node : Bool) (w : World) (a : Applied) → (applied node w a).world.revision ≤ w.revision + 1
-revision-applied node w Unchanged = omega arith
-revision-applied true w Changed = omega arith
-revision-applied false w Changed = omega arith
+revision-differs : (node other : Bool) (w : WorldData) → (differs node other w).world.revision ≤ w.revision + 1
+revision-differs node true w = omega arith
+revision-differs true false w = omega arith
+revision-differs false false w = omega arith
 
-revision-step_of_change : (node : Bool) (w : World) (r : Result Outcome ClusterRefusal) → (step_of_change node w r).world.revision ≤ w.revision + 1
-revision-step_of_change node w (Ok o) = revision-applied node (record w { cluster = o.cluster }) o.applied
-revision-step_of_change node w (Err cluster.NodesFixed) = omega arith
-revision-step_of_change node w (Err (cluster.AddressInUse pod)) = omega arith
-revision-step_of_change node w (Err cluster.NoMemory) = omega arith
+revision-step_of_changes : (w : WorldData) (r : Result Outcomes ClusterRefusal) → (step_of_changes w r).world.revision ≤ w.revision + 1
+revision-step_of_changes w (Ok o) = revision-differs o.node_changed o.other_changed (record w { cluster = o.cluster })
+revision-step_of_changes w (Err refusal) = omega arith
 
-pub revision-step : (w : World) (s : Item) → (step w s).world.revision ≤ w.revision + 1
+pub revision-step : (w : WorldData) (s : Item) → (step w s).world.revision ≤ w.revision + 1
 unfolding step
-revision-step w (Object change) = revision-step_of_change (is_node change) w (after w.cluster (change ∷ []))
-revision-step w (Control (Ask node question)) = omega arith
+revision-step w (Objects changes) = revision-step_of_changes w (after w.cluster changes)
+revision-step w (Ask node question) = omega arith
 revision-step w Blank = omega arith
 revision-step w (Refused r) = omega arith

@@ -11,11 +11,10 @@ use Rattle.cl_io.specs.ReaderLaws.{Kept-none}
 use Rattle.cl_io.specs.Sink.{SinkState, Endures, Lowers, Takes}
 use Rattle.cl_io.specs.SinkLaws.{Lowers-none, Lowers-more}
 use Rattle.suite_run.specs.declared.blocks.LineBlock.{LineBlock}
-use Rattle.suite_run.specs.declared.world.World.{World}
 use Rattle.suite_run.specs.Blocks.{block_text, world_after, blocks, has_refusal, out_of}
 use Rattle.suite_run.specs.Run.{IsTelling, text_due, whole_files}
 use Rattle.suite_run.specs.Shown.{Shows}
-use Rattle.suite_run.specs.World.{line_limit, input_limit, first_world, item_of, step, is_refusal, outcome, happens}
+use Rattle.suite_run.specs.World.{WorldData, line_limit, input_limit, first_world, item_of, step, is_refusal, outcome, happens}
 use Rattle.suite_run.proofs.Revisions.{revision-step}
 use Rattle.suite_run.proofs.Wholes.{Begins-all, world_after-append, blocks-append, has_refusal-append}
 
@@ -31,7 +30,7 @@ abbrev pub IsTruthful : FilesState → Type 0
 IsTruthful f = IfSome f.taken (All (IsOfContent f.content))
 
 -- the blocks of some lines were written, and the reader handed out no others
-pub record Running (names : List (List ℕ)) (f0 : FilesState) (o0 : SinkState) (r : Reading) (f : FilesState) (o : SinkState) (w : World) (refused : Bool) (number : ℕ) : Type 0 where
+pub record Running (names : List (List ℕ)) (f0 : FilesState) (o0 : SinkState) (r : Reading) (f : FilesState) (o : SinkState) (w : WorldData) (refused : Bool) (number : ℕ) : Type 0 where
   pub done : List (List ℕ)
   pub count : length done + 1 ≡ number
   pub kept : Kept (start names) f0 r f
@@ -47,7 +46,7 @@ pub record Running (names : List (List ℕ)) (f0 : FilesState) (o0 : SinkState) 
 
 -- ---- before the first line
 
-pub Running-none : (names : List (List ℕ)) (f0 : FilesState) (o0 : SinkState) (r : Reading) (w : World) → r ≡ start names → ((base : FilesState) → Stands base [] r base) → w ≡ first_world →
+pub Running-none : (names : List (List ℕ)) (f0 : FilesState) (o0 : SinkState) (r : Reading) (w : WorldData) → r ≡ start names → ((base : FilesState) → Stands base [] r base) → w ≡ first_world →
     Running names f0 o0 r f0 o0 w false 1
 Running-none names f0 o0 r w fresh stands e =
     record {
@@ -57,7 +56,7 @@ Running-none names f0 o0 r w fresh stands e =
       stands = stands f0;
       world_is = e;
       refused_is = refl;
-      revisions = let P : World → Type 0 = λ z. z.revision + 1 ≤ 1 in subst P (sym e) (omega arith);
+      revisions = let P : WorldData → Type 0 = λ z. z.revision + 1 ≤ 1 in subst P (sym e) (omega arith);
       written = Adds-none o0.written;
       free = Lowers-none o0.free;
       used_up = let P : Reading → Type 0 = λ z. 1 ≤ used z + 1 in subst P (sym fresh) (omega arith);
@@ -135,7 +134,7 @@ handed f0 done (TooLong count) r f some more hands stands =
 handed f0 done End r f some more hands stands = absurd (some refl)
 
 -- the block of the line is the next one
-next_blocks : (done : List (List ℕ)) (bytes : List ℕ) (number : ℕ) (w : World) (text : List ℕ) → length done + 1 ≡ number → w ≡ world_after first_world done → text ≡ block_text number (outcome w bytes) →
+next_blocks : (done : List (List ℕ)) (bytes : List ℕ) (number : ℕ) (w : WorldData) (text : List ℕ) → length done + 1 ≡ number → w ≡ world_after first_world done → text ≡ block_text number (outcome w bytes) →
     blocks 1 first_world (done ++ bytes ∷ []) ≡ blocks 1 first_world done ++ text
 next_blocks done bytes number w text count world_is e =
     let n : 1 + length done ≡ number = omega (arith, count) in
@@ -155,15 +154,15 @@ pub record NextFront (names : List (List ℕ)) (f0 : FilesState) (done : List (L
   pub rest : List ℕ
   pub split : text_due names f0 ≡ blocks 1 first_world done ++ (text ++ rest)
 
-pub next_front : (names : List (List ℕ)) (f0 : FilesState) (o0 : SinkState) (r : Reading) (f : FilesState) (o : SinkState) (w : World) (refused : Bool) (number : ℕ) (run : Running names f0 o0 r f o w refused number)
-    (r' : Reading) (f' : FilesState) (line : Line) (h : Handed f0 run.done line r' f') (w' : World) (block : LineBlock) → Shows number (step w (item_of h.bytes)) w' block →
+pub next_front : (names : List (List ℕ)) (f0 : FilesState) (o0 : SinkState) (r : Reading) (f : FilesState) (o : SinkState) (w : WorldData) (refused : Bool) (number : ℕ) (run : Running names f0 o0 r f o w refused number)
+    (r' : Reading) (f' : FilesState) (line : Line) (h : Handed f0 run.done line r' f') (w' : WorldData) (block : LineBlock) → Shows number (step w (item_of h.bytes)) w' block →
     Kept (start names) f0 r' f' → IsTruthful f' → IsSome f'.taken → NextFront names f0 run.done block.text
 next_front names f0 o0 r f o w refused number run r' f' line h w' block follows kept truthful taken =
     let d = due_front names f0 r' f' (run.done ++ h.bytes ∷ []) kept h.stands truthful taken in
     let e = next_blocks run.done h.bytes number w block.text run.count run.world_is follows.text in
     record { rest = d.rest; split = d.split ∙ (ap (λ z. z ++ d.rest) e ∙ append_assoc (blocks 1 first_world run.done) block.text d.rest) }
 
-pub next_faultless : {T E : Type 0} (names : List (List ℕ)) (f0 : FilesState) (o0 : SinkState) (r : Reading) (f : FilesState) (o : SinkState) (w : World) (refused : Bool) (number : ℕ) (run : Running names f0 o0 r f o w refused number)
+pub next_faultless : {T E : Type 0} (names : List (List ℕ)) (f0 : FilesState) (o0 : SinkState) (r : Reading) (f : FilesState) (o : SinkState) (w : WorldData) (refused : Bool) (number : ℕ) (run : Running names f0 o0 r f o w refused number)
     (text : List ℕ) (result : Result T E) (o' : SinkState) → (IsTelling names f0 → NextFront names f0 run.done text) →
     (IsTrue o.steady → IfSome o.free (λ room. length text ≤ room → Succeeds result o.faults o'.faults)) → Faultless names f0 o0 o'.faults
 next_faultless names f0 o0 r f o w refused number run text result o' front put = λ s t.
@@ -172,8 +171,8 @@ next_faultless names f0 o0 r f o w refused number run text result o' front put =
     omega (arith, ap length d.split, length-append (blocks 1 first_world run.done) (text ++ d.rest), length-append text d.rest) in
     room_left result o0.free o.free _ _ _ _ _ _ fits run.free (run.faultless s t) (put (run.endures.steady s))
 
-pub Running-more : {T E : Type 0} (names : List (List ℕ)) (f0 : FilesState) (o0 : SinkState) (r : Reading) (f : FilesState) (o : SinkState) (w : World) (refused : Bool) (number : ℕ) (run : Running names f0 o0 r f o w refused number)
-    (r' : Reading) (f' : FilesState) (line : Line) (h : Handed f0 run.done line r' f') (w' : World) (block : LineBlock) → Shows number (step w (item_of h.bytes)) w' block →
+pub Running-more : {T E : Type 0} (names : List (List ℕ)) (f0 : FilesState) (o0 : SinkState) (r : Reading) (f : FilesState) (o : SinkState) (w : WorldData) (refused : Bool) (number : ℕ) (run : Running names f0 o0 r f o w refused number)
+    (r' : Reading) (f' : FilesState) (line : Line) (h : Handed f0 run.done line r' f') (w' : WorldData) (block : LineBlock) → Shows number (step w (item_of h.bytes)) w' block →
     Kept (start names) f0 r' f' → IsTruthful f' →
     (result : Result T E) (o' : SinkState) (refused' : Bool) → used r < used r' → Adds o.written block.text o'.written → Lowers o.free (length block.text) o'.free → Endures o o' →
     (IsTrue o.steady → IfSome o.free (λ room. length block.text ≤ room → Succeeds result o.faults o'.faults)) →
@@ -190,7 +189,7 @@ Running-more names f0 o0 r f o w refused number run r' f' line h w' block follow
       stands = h.stands;
       world_is = follows.world_is ∙ (ap (λ z. happens z h.bytes) run.world_is ∙ sym (world_after-append first_world run.done (h.bytes ∷ [])));
       refused_is = refuses ∙ (ap (λ z. z || block.refusal) run.refused_is ∙ (ap (λ z. has_refusal first_world run.done || z) (follows.refusal ∙ ap (λ z. is_refusal (outcome z h.bytes)) run.world_is) ∙ sym (has_refusal-append first_world run.done h.bytes)));
-      revisions = omega (arith, run.revisions, ap (λ (z : World). z.revision) follows.world_is, revision-step w (item_of h.bytes));
+      revisions = omega (arith, run.revisions, ap (λ (z : WorldData). z.revision) follows.world_is, revision-step w (item_of h.bytes));
       written = subst W (sym e) (Adds-more o0.written _ o.written block.text o'.written run.written written);
       free = subst L (sym (ap length e ∙ length-append (blocks 1 first_world run.done) block.text)) (Lowers-more o0.free _ o.free _ o'.free run.free free);
       used_up = omega (arith, run.used_up, uses);

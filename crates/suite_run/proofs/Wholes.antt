@@ -8,10 +8,9 @@ use Rattle.cl_io.specs.Files.{Entry, IsOfContent, IsEnded, names_of}
 use Rattle.cl_io.specs.Lines.{lines_of, whole_lines}
 use Rattle.cl_io.specs.Reader.{Reading, IsBetween, IsAmid, Took}
 use Rattle.cl_io.specs.LinesLaws.{whole_lines-append, names_of-append}
-use Rattle.suite_run.specs.declared.world.World.{World}
 use Rattle.suite_run.specs.Blocks.{block_text, world_after, blocks, has_refusal}
 use Rattle.suite_run.specs.Run.{whole_files}
-use Rattle.suite_run.specs.World.{is_refusal, outcome, happens}
+use Rattle.suite_run.specs.World.{WorldData, is_refusal, outcome, happens}
 
 -- ---- files
 
@@ -80,11 +79,11 @@ Begins-all content done r entries t holds =
 
 -- ---- blocks of more lines
 
-pub world_after-append : (w : World) (xs ys : List (List ℕ)) → world_after w (xs ++ ys) ≡ world_after (world_after w xs) ys
+pub world_after-append : (w : WorldData) (xs ys : List (List ℕ)) → world_after w (xs ++ ys) ≡ world_after (world_after w xs) ys
 world_after-append w [] ys = refl
 world_after-append w (x ∷ xs) ys = world_after-append (happens w x) xs ys
 
-pub blocks-append : (n : ℕ) (w : World) (xs ys : List (List ℕ)) → blocks n w (xs ++ ys) ≡ blocks n w xs ++ blocks (n + length xs) (world_after w xs) ys
+pub blocks-append : (n : ℕ) (w : WorldData) (xs ys : List (List ℕ)) → blocks n w (xs ++ ys) ≡ blocks n w xs ++ blocks (n + length xs) (world_after w xs) ys
 blocks-append n w [] ys = ap (λ k. blocks k w ys) (omega arith)
 blocks-append n w (x ∷ xs) ys =
     let e : n + 1 + length xs ≡ n + length (x ∷ xs) = omega arith in
@@ -99,7 +98,7 @@ or_assoc : (a b c : Bool) → (a || (b || c)) ≡ ((a || b) || c)
 or_assoc true b c = refl
 or_assoc false b c = refl
 
-pub has_refusal-append : (w : World) (xs : List (List ℕ)) (y : List ℕ) → has_refusal w (xs ++ y ∷ []) ≡ (has_refusal w xs || is_refusal (outcome (world_after w xs) y))
+pub has_refusal-append : (w : WorldData) (xs : List (List ℕ)) (y : List ℕ) → has_refusal w (xs ++ y ∷ []) ≡ (has_refusal w xs || is_refusal (outcome (world_after w xs) y))
 has_refusal-append w [] y = or_false (is_refusal (outcome w y))
 has_refusal-append w (x ∷ xs) y =
     ap (λ z. is_refusal (outcome w x) || z) (has_refusal-append (happens w x) xs y) ∙ or_assoc (is_refusal (outcome w x)) (has_refusal (happens w x) xs) (is_refusal (outcome (world_after (happens w x) xs) y))

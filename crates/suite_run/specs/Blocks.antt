@@ -3,19 +3,37 @@ use Rattle.std.specs.Prelude.{ℕ, ◌+◌, List, [], ◌∷◌, ◌++◌, Bool,
 use Rattle.std.specs.Fmt.{decimal}
 use Rattle.cl_io.specs.Files.{Entry}
 use Rattle.cl_io.specs.Lines.{line_feed, whole_lines}
-use Rattle.cl_types.specs.Written.{pod_text, judged_text}
+use Rattle.cl_types.specs.Written.{pod_text, policy_text, judged_text}
+use Rattle.cluster_objects.specs.declared.change.ClusterRefusal.{ClusterRefusal}
+use Rattle.cluster_objects.specs.declared.change.ClusterRefusal.TheVariants as cluster
+use Rattle.policy_reader.specs.declared.item.ReadRefusal.{ReadRefusal}
+use Rattle.policy_reader.specs.declared.item.ReadRefusal.TheVariants as reading
 use Rattle.suite_run.specs.declared.item.Refusal.{Refusal}
-use Rattle.suite_run.specs.declared.item.Refusal.TheVariants.{NotJson, NotBuilt, TooLong, NodesFixed, AddressInUse, NoNode}
-use Rattle.suite_run.specs.declared.world.World.{World}
-use Rattle.suite_run.specs.World.{OutcomeData, silent, revision, node_count, no_change, refused, judged, is_refusal, first_world, outcome, happens}
+use Rattle.suite_run.specs.declared.item.Refusal.TheVariants.{Reading, TooLong, Applying, NoNode}
+use Rattle.suite_run.specs.World.{WorldData, OutcomeData, silent, revision, node_count, no_change, refused, judged, is_refusal, first_world, outcome, happens}
 
 -- the refusal's name, and a space and the detail where there is one
+abbrev pub reading_text : ReadRefusal → List ℕ
+reading_text reading.NotJson = codes "NotJson"
+reading_text reading.NotBuilt = codes "NotBuilt"
+reading_text reading.NoMemory = []
+
+abbrev pub applying_text : ClusterRefusal → List ℕ
+applying_text cluster.NodesFixed = codes "NodesFixed"
+applying_text (cluster.CidrOverlap node) = codes "CidrOverlap " ++ node
+applying_text cluster.TierFixed = codes "TierFixed"
+applying_text (cluster.TierTaken tier) = codes "TierTaken " ++ tier
+applying_text (cluster.TierInUse policy) = codes "TierInUse " ++ policy_text policy
+applying_text (cluster.NoSuchTier tier) = codes "NoSuchTier " ++ tier
+applying_text (cluster.AddressInUse pod) = codes "AddressInUse " ++ pod_text pod
+applying_text (cluster.TooMany limit) = codes "TooMany " ++ decimal limit
+applying_text (cluster.TooManyMarks node) = codes "TooManyMarks " ++ node
+applying_text cluster.NoMemory = []
+
 abbrev pub refusal_text : Refusal → List ℕ
-refusal_text NotJson = codes "NotJson"
-refusal_text NotBuilt = codes "NotBuilt"
+refusal_text (Reading refusal) = reading_text refusal
 refusal_text (TooLong count) = codes "TooLong " ++ decimal count
-refusal_text NodesFixed = codes "NodesFixed"
-refusal_text (AddressInUse pod) = codes "AddressInUse " ++ pod_text pod
+refusal_text (Applying refusal) = applying_text refusal
 refusal_text NoNode = codes "NoNode"
 
 abbrev pub outcome_text : OutcomeData → List ℕ
@@ -28,28 +46,24 @@ outcome_text (judged r j) = codes "controller " ++ (decimal r ++ (codes " " ++ j
 
 abbrev pub is_silent : OutcomeData → Bool
 is_silent silent = true
-is_silent (revision r) = false
-is_silent (node_count k) = false
-is_silent no_change = false
-is_silent (refused r) = false
-is_silent (judged r j) = false
+is_silent _ = false
 
 -- the line's number, what is told of it, and a line feed; nothing where nothing is told
 unfoldable pub block_text : ℕ → OutcomeData → List ℕ
 block_text n o = if is_silent o then [] else (decimal n ++ (codes " " ++ (outcome_text o ++ (line_feed ∷ []))))
 
 -- the world after some lines
-abbrev pub world_after : World → List (List ℕ) → World
+abbrev pub world_after : WorldData → List (List ℕ) → WorldData
 world_after w [] = w
 world_after w (line ∷ lines) = world_after (happens w line) lines
 
 -- the blocks of lines that are numbered from n on
-abbrev pub blocks : ℕ → World → List (List ℕ) → List ℕ
+abbrev pub blocks : ℕ → WorldData → List (List ℕ) → List ℕ
 blocks n w [] = []
 blocks n w (line ∷ lines) = block_text n (outcome w line) ++ blocks (n + 1) (happens w line) lines
 
 -- whether some of the lines is refused
-abbrev pub has_refusal : World → List (List ℕ) → Bool
+abbrev pub has_refusal : WorldData → List (List ℕ) → Bool
 has_refusal w [] = false
 has_refusal w (line ∷ lines) = is_refusal (outcome w line) || has_refusal (happens w line) lines
 

@@ -1,21 +1,16 @@
 -- The clusters that the revisions of a run name (this project's own).
 use Rattle.std.specs.Prelude.{◌≡◌, ℕ, List, [], ◌∷◌, length, true, IsTrue}
 use Rattle.cluster_objects.specs.Cluster.{ClusterData, no_objects}
-use Rattle.suite_run.specs.declared.world.World.{World}
 use Rattle.suite_run.specs.Blocks.{world_after}
-use Rattle.suite_run.specs.World.{OutcomeData, silent, revision, node_count, no_change, refused, judged, first_world, outcome, happens}
+use Rattle.suite_run.specs.World.{WorldData, OutcomeData, revision, first_world, outcome, happens}
 
 -- a cluster comes before later ones where its line made a revision
 abbrev pub revised_to : OutcomeData → ClusterData → List ClusterData → List ClusterData
 revised_to (revision r) c later = c ∷ later
-revised_to silent c later = later
-revised_to (node_count k) c later = later
-revised_to no_change c later = later
-revised_to (refused r) c later = later
-revised_to (judged r j) c later = later
+revised_to _ c later = later
 
 -- the clusters after those of the lines that made a revision, in order
-abbrev pub revisions : World → List (List ℕ) → List ClusterData
+abbrev pub revisions : WorldData → List (List ℕ) → List ClusterData
 revisions w [] = []
 revisions w (line ∷ lines) = revised_to (outcome w line) (happens w line).cluster (revisions (happens w line) lines)
 

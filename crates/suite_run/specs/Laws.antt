@@ -1,15 +1,14 @@
 -- What holds of all worlds and lines (this project's own).
 use Rattle.std.specs.Prelude.{◌≡◌, ℕ, ◌+◌, List, ◌∷◌, ◌++◌, length, IsTrue}
 use Rattle.suite_run.specs.declared.item.Item.TheVariants.{Blank}
-use Rattle.suite_run.specs.declared.world.World.{World}
 use Rattle.suite_run.specs.Blocks.{block_text, world_after, blocks}
-use Rattle.suite_run.specs.World.{item_of, is_refusal, outcome, happens}
+use Rattle.suite_run.specs.World.{WorldData, item_of, is_refusal, outcome, happens}
 
-abbrev pub IsRefused : World → List ℕ → Type 0
+abbrev pub IsRefused : WorldData → List ℕ → Type 0
 IsRefused w line = IsTrue (is_refusal (outcome w line))
 
 -- the same blocks stand before and after the block of a refused line and where a blank line stands in its place
-pub record SameBlocks (number : ℕ) (w : World) (before : List (List ℕ)) (line blank : List ℕ) (after : List (List ℕ)) : Type 0 where
+pub record SameBlocks (number : ℕ) (w : WorldData) (before : List (List ℕ)) (line blank : List ℕ) (after : List (List ℕ)) : Type 0 where
   pub front : List ℕ
   pub back : List ℕ
   pub refused : blocks number w (before ++ line ∷ after) ≡ front ++ (block_text (number + length before) (outcome (world_after w before) line) ++ back)
@@ -17,10 +16,10 @@ pub record SameBlocks (number : ℕ) (w : World) (before : List (List ℕ)) (lin
 
 -- a refused line leaves the world as it was
 abbrev pub RefusedLinesChangeNothing : Type 0
-RefusedLinesChangeNothing = (w : World) (line : List ℕ) → IsRefused w line → happens w line ≡ w
+RefusedLinesChangeNothing = (w : WorldData) (line : List ℕ) → IsRefused w line → happens w line ≡ w
 
 -- so the blocks of all other lines are those that come where a blank line stands in its place
 abbrev pub RefusedLinesAreAsBlank : Type 0
 RefusedLinesAreAsBlank =
-    (number : ℕ) (w : World) (before : List (List ℕ)) (line blank : List ℕ) (after : List (List ℕ)) →
+    (number : ℕ) (w : WorldData) (before : List (List ℕ)) (line blank : List ℕ) (after : List (List ℕ)) →
     IsRefused (world_after w before) line → item_of blank ≡ Blank → SameBlocks number w before line blank after

@@ -1,13 +1,15 @@
 //! The text that is printed of each line.
 ghost use Rattle.std.specs.Prelude.{◌≡◌, ◌++◌, [], ◌∷◌, OnOk, IfOk};
 ghost use Rattle.std.specs.Fmt.{decimal};
-ghost use Rattle.suite_run.specs.Blocks.{refusal_text, outcome_text, is_silent, block_text};
+ghost use Rattle.suite_run.specs.Blocks.{reading_text, applying_text, refusal_text, outcome_text, is_silent, block_text};
 ghost use Rattle.suite_run.specs.Shown.{outcome_of};
 ghost use Rattle.suite_run.specs.World.{is_refusal};
 
 use crate::item::Refusal;
 use crate::world::LineOutcome;
-use cl_types::{NoMemory, Text, write_bytes, write_judged, write_number, write_pod};
+use cl_types::{NoMemory, Text, write_bytes, write_judged, write_number, write_pod, write_policy};
+use cluster_objects::ClusterRefusal;
+use policy_reader::ReadRefusal;
 use std::alloc::Global;
 
 /// What is printed of a line, and whether it says that the line is refused.
@@ -83,14 +85,49 @@ fn write_refusal(out: &mut Text, refusal: &Refusal) -> Result<(), NoMemory>
     ensures { OnOk result (out.new ≡ out.old ++ refusal_text refusal.now) }
 {
     match refusal {
-        Refusal::NotJson => write_bytes(out, b"NotJson"),
-        Refusal::NotBuilt => write_bytes(out, b"NotBuilt"),
+        Refusal::Reading(refusal) => write_reading(out, refusal),
         Refusal::TooLong(count) => write_counted(out, b"TooLong ", *count),
-        Refusal::NodesFixed => write_bytes(out, b"NodesFixed"),
-        Refusal::AddressInUse(pod) => {
+        Refusal::Applying(refusal) => write_applying(out, refusal),
+        Refusal::NoNode => write_bytes(out, b"NoNode"),
+    }
+}
+
+fn write_detail(out: &mut Text, word: &[u8], detail: &Text) -> Result<(), NoMemory>
+    ensures { OnOk result (out.new ≡ out.old ++ (word.now ++ detail.now)) }
+{
+    write_bytes(out, word)?;
+    write_bytes(out, detail.as_slice())
+}
+
+fn write_reading(out: &mut Text, refusal: &ReadRefusal) -> Result<(), NoMemory>
+    ensures { OnOk result (out.new ≡ out.old ++ reading_text refusal.now) }
+{
+    match refusal {
+        ReadRefusal::NotJson => write_bytes(out, b"NotJson"),
+        ReadRefusal::NotBuilt => write_bytes(out, b"NotBuilt"),
+        ReadRefusal::NoMemory => Ok(()),
+    }
+}
+
+fn write_applying(out: &mut Text, refusal: &ClusterRefusal) -> Result<(), NoMemory>
+    ensures { OnOk result (out.new ≡ out.old ++ applying_text refusal.now) }
+{
+    match refusal {
+        ClusterRefusal::NodesFixed => write_bytes(out, b"NodesFixed"),
+        ClusterRefusal::CidrOverlap(node) => write_detail(out, b"CidrOverlap ", node),
+        ClusterRefusal::TierFixed => write_bytes(out, b"TierFixed"),
+        ClusterRefusal::TierTaken(tier) => write_detail(out, b"TierTaken ", tier),
+        ClusterRefusal::TierInUse(policy) => {
+            write_bytes(out, b"TierInUse ")?;
+            write_policy(out, policy)
+        }
+        ClusterRefusal::NoSuchTier(tier) => write_detail(out, b"NoSuchTier ", tier),
+        ClusterRefusal::AddressInUse(pod) => {
             write_bytes(out, b"AddressInUse ")?;
             write_pod(out, pod)
         }
-        Refusal::NoNode => write_bytes(out, b"NoNode"),
+        ClusterRefusal::TooMany(limit) => write_counted(out, b"TooMany ", u64::from(*limit)),
+        ClusterRefusal::TooManyMarks(node) => write_detail(out, b"TooManyMarks ", node),
+        ClusterRefusal::NoMemory => Ok(()),
     }
 }

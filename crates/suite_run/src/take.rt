@@ -1,7 +1,7 @@
 //! One line: what it changes, and the block that is printed of it.
 ghost use Rattle.std.specs.Prelude.{◌≡◌, ℕ, ◌+◌, ◌^◌, ◌<◌, ◌≤◌, List, [], ◌∷◌, OnOk, IfOk};
 ghost use Rattle.cl_io.specs.Reader.{Hands, KeepsLimit};
-ghost use Rattle.suite_run.specs.Shown.{Shows};
+ghost use Rattle.suite_run.specs.Shown.{Shows, world_of};
 ghost use Rattle.suite_run.specs.World.{line_limit, item_of, step, outcome, happens};
 
 use crate::blocks::{LineBlock, block_of};
@@ -9,7 +9,6 @@ use crate::item::{Item, item_of};
 use crate::world::{LineOutcome, World};
 use cl_io::Line;
 use cl_types::NoMemory;
-use policy_reader::Control;
 use std::alloc::Global;
 
 /// Takes the line that was handed out as the one with this number.
@@ -21,7 +20,7 @@ pub(crate) fn take_line(
 ) -> Result<LineBlock, NoMemory>
     requires { world.old.revision + 1 < 2 ^ 64 }
     ensures { (bytes : List ℕ) → Hands line.now (bytes ∷ []) → KeepsLimit line_limit line.now
-        → IfOk result (λ b. Shows number (step world.old (item_of bytes)) world.new b) }
+        → IfOk result (λ b. Shows number (step (world_of world.old) (item_of bytes)) (world_of world.new) b) }
 {
     let item = item_of(alloc, line)?;
     take_item(alloc, world, number, item)
@@ -35,13 +34,11 @@ fn take_item(
     item: Item,
 ) -> Result<LineBlock, NoMemory>
     requires { world.old.revision + 1 < 2 ^ 64 }
-    ensures { IfOk result (λ b. Shows number (step world.old item) world.new b) }
+    ensures { IfOk result (λ b. Shows number (step (world_of world.old) item) (world_of world.new) b) }
 {
     match item {
-        Item::Object(change) => block_of(alloc, number, &world.change(change)?),
-        Item::Control(Control::Ask { node, question }) => {
-            block_of(alloc, number, &world.answer(&node, &question))
-        }
+        Item::Objects(changes) => block_of(alloc, number, &world.change(changes.as_slice())?),
+        Item::Ask { node, question } => block_of(alloc, number, &world.answer(&node, &question)),
         Item::Blank => block_of(alloc, number, &LineOutcome::Silent),
         Item::Refused(refusal) => block_of(alloc, number, &LineOutcome::Refused(refusal)),
     }

@@ -1,15 +1,16 @@
 //! What is known between two lines, and what a line changes in it.
-ghost use Rattle.std.specs.Prelude.{◌≡◌, ℕ, ◌+◌, ◌^◌, ◌<◌, ◌≤◌, List, [], ◌∷◌, length, IfOk};
+ghost use Rattle.std.specs.Prelude.{◌≡◌, ℕ, ◌+◌, ◌^◌, ◌<◌, ◌≤◌, ◌&&◌, ◌||◌, not, List, [], ◌∷◌, length, IfOk};
 ghost use Rattle.std.specs.List.{list_any};
 ghost use Rattle.cl_types.specs.Text.{text_eq};
-ghost use Rattle.cluster_objects.specs.Apply.{after};
+ghost use Rattle.cluster_objects.specs.Apply.{makes_difference};
+ghost use Rattle.cluster_objects.specs.Changes.{after, is_node};
 ghost use Rattle.cluster_objects.specs.Node.{NodeData};
-ghost use Rattle.suite_run.specs.Shown.{outcome_of};
-ghost use Rattle.suite_run.specs.World.{first_world, is_node, is_listed, answer, step_of_change, differs};
+ghost use Rattle.suite_run.specs.Shown.{outcome_of, world_of, ComesTo, IsTold};
+ghost use Rattle.suite_run.specs.World.{first_world, is_listed, answer, step_of_changes, differs};
 
 use crate::item::Refusal;
-use cl_types::{Judged, NoMemory, Question, Text};
-use cluster_objects::{Applied, Change, Cluster, ClusterRefusal, NodeInfo, Object};
+use cl_types::{Copies, Judged, NoMemory, Question, Text};
+use cluster_objects::{Applied, Change, Cluster, ClusterRefusal, NodeInfo, Object, ObjectKey};
 use policy_order::judge;
 use std::alloc::Global;
 
@@ -33,10 +34,50 @@ pub(crate) enum LineOutcome<'c> {
     Controller(u64, Judged<'c>),
 }
 
+// Whether a Node was changed, and whether anything else was.
+#[derive(Clone, Copy)]
+struct Differences {
+    node: bool,
+    other: bool,
+}
+
+impl Differences {
+    const NONE: Differences = Differences {
+        node: false,
+        other: false,
+    };
+
+    // What one change makes.
+    fn of(node: bool, applied: Applied) -> Differences
+        ensures node { result.node ≡ (node && makes_difference applied) }
+        ensures other { result.other ≡ (not node && makes_difference applied) }
+    {
+        match applied {
+            Applied::Unchanged => Differences::NONE,
+            Applied::Changed => Differences { node, other: !node },
+        }
+    }
+
+    // These, and those that a further change makes.
+    fn and(self, node: bool, applied: Applied) -> Differences
+        ensures node { result.node ≡ (self.node || (node && makes_difference applied)) }
+        ensures other { result.other ≡ (self.other || (not node && makes_difference applied)) }
+    {
+        let more = Differences::of(node, applied);
+        Differences {
+            node: self.node || more.node,
+            other: self.other || more.other,
+        }
+    }
+}
+
 fn is_node(change: &Change) -> bool
     ensures { result ≡ is_node change.now }
 {
-    matches!(change, Change::Put(Object::Node(_)))
+    matches!(
+        change,
+        Change::Put(Object::Node(_)) | Change::Remove(ObjectKey::Node(_))
+    )
 }
 
 fn has_node(nodes: &[NodeInfo], name: &Text) -> bool
@@ -47,9 +88,21 @@ fn has_node(nodes: &[NodeInfo], name: &Text) -> bool
         .any(|node| node.name.as_slice() == name.as_slice())
 }
 
+// Makes the changes in their order, up to the first one that is refused.
+fn apply_all(cluster: &mut Cluster, changes: &[Change]) -> Result<Differences, ClusterRefusal>
+    ensures { ComesTo (after cluster.old.cluster changes.now) result cluster.new.cluster }
+{
+    let mut made = Differences::NONE;
+    for change in changes {
+        let applied = cluster.try_apply(change.copy()?)?;
+        made = made.and(is_node(change), applied);
+    }
+    Ok(made)
+}
+
 impl World {
     pub(crate) fn new(alloc: Global) -> Result<World, NoMemory>
-        ensures { IfOk result (λ world. world ≡ first_world) }
+        ensures { IfOk result (λ world. world_of world ≡ first_world) }
     {
         Ok(World {
             cluster: Cluster::new(alloc)?,
@@ -57,40 +110,64 @@ impl World {
         })
     }
 
-    /// Makes a change.
-    pub(crate) fn change(&mut self, change: Change) -> Result<LineOutcome<'static>, NoMemory>
+    /// Makes the changes of a line, all of them or none.
+    pub(crate) fn change(&mut self, changes: &[Change]) -> Result<LineOutcome<'static>, NoMemory>
         requires { self.old.revision + 1 < 2 ^ 64 }
-        ensures { IfOk result (λ outcome. step_of_change (is_node change) self.old (after self.old.cluster (change ∷ []))
-            ≡ record { world = self.new; outcome = outcome_of outcome }) }
+        ensures { IfOk result (λ outcome. step_of_changes (world_of self.old) (after self.old.cluster.cluster changes.now)
+            ≡ record { world = world_of self.new; outcome = outcome_of outcome }) }
     {
-        cluster_objects::one_change_is_a_list();
-        let is_node = is_node(&change);
-        match self.cluster.try_apply(change) {
-            Ok(Applied::Unchanged) => Ok(LineOutcome::Unchanged),
-            Ok(Applied::Changed) => Ok(self.changed(is_node)),
-            Err(ClusterRefusal::NodesFixed) => Ok(LineOutcome::Refused(Refusal::NodesFixed)),
-            Err(ClusterRefusal::AddressInUse(pod)) => {
-                Ok(LineOutcome::Refused(Refusal::AddressInUse(pod)))
-            }
-            Err(ClusterRefusal::NoMemory) => Err(NoMemory),
+        match changes {
+            [change] => self.change_one(change),
+            _ => self.change_all(changes),
         }
     }
 
-    // Tells of a change that made a difference, and counts it where it isn't a Node's.
-    fn changed(&mut self, is_node: bool) -> LineOutcome<'static>
+    // One change needs no copy of the cluster: a refusal leaves it as it was.
+    fn change_one(&mut self, change: &Change) -> Result<LineOutcome<'static>, NoMemory>
         requires { self.old.revision + 1 < 2 ^ 64 }
-        ensures { differs is_node self.old ≡ record { world = self.new; outcome = outcome_of result } }
+        ensures { IfOk result (λ outcome. step_of_changes (world_of self.old) (after self.old.cluster.cluster (change.now ∷ []))
+            ≡ record { world = world_of self.new; outcome = outcome_of outcome }) }
     {
-        if is_node {
-            return LineOutcome::Nodes(self.cluster.nodes().as_slice().len() as u64);
+        match self.cluster.try_apply(change.copy()?) {
+            Ok(applied) => Ok(self.told(Differences::of(is_node(change), applied))),
+            Err(refusal) => refused(refusal),
         }
-        self.revision += 1;
-        LineOutcome::Revision(self.revision)
+    }
+
+    // Many changes are tried on a copy of the cluster.
+    fn change_all(&mut self, changes: &[Change]) -> Result<LineOutcome<'static>, NoMemory>
+        requires { self.old.revision + 1 < 2 ^ 64 }
+        ensures { IfOk result (λ outcome. step_of_changes (world_of self.old) (after self.old.cluster.cluster changes.now)
+            ≡ record { world = world_of self.new; outcome = outcome_of outcome }) }
+    {
+        let mut tried = self.cluster.copy()?;
+        match apply_all(&mut tried, changes) {
+            Ok(made) => {
+                self.cluster = tried;
+                Ok(self.told(made))
+            }
+            Err(refusal) => refused(refusal),
+        }
+    }
+
+    // Tells of changes that were made, and counts them where one isn't a Node's.
+    fn told(&mut self, made: Differences) -> LineOutcome<'static>
+        requires { self.old.revision + 1 < 2 ^ 64 }
+        ensures { differs made.node made.other (world_of self.old) ≡ record { world = world_of self.new; outcome = outcome_of result } }
+    {
+        if made.other {
+            self.revision += 1;
+            LineOutcome::Revision(self.revision)
+        } else if made.node {
+            LineOutcome::Nodes(self.cluster.nodes().len() as u64)
+        } else {
+            LineOutcome::Unchanged
+        }
     }
 
     /// Answers a question.
     pub(crate) fn answer(&self, node: &Text, question: &Question) -> LineOutcome<'_>
-        ensures { outcome_of result ≡ answer self.now node.now question.now }
+        ensures { outcome_of result ≡ answer (world_of self.now) node.now question.now }
     {
         if self.is_listed(node) {
             LineOutcome::Controller(self.revision, judge(&self.cluster, node, question))
@@ -101,8 +178,18 @@ impl World {
 
     // Whether the nodes are fixed and one has the name.
     fn is_listed(&self, name: &Text) -> bool
-        ensures { result ≡ is_listed self.now.cluster name.now }
+        ensures { result ≡ is_listed self.now.cluster.cluster name.now }
     {
-        self.cluster.fixed() && has_node(self.cluster.nodes().as_slice(), name)
+        self.cluster.fixed() && has_node(self.cluster.nodes(), name)
+    }
+}
+
+// What is told of a refused change.
+fn refused(refusal: ClusterRefusal) -> Result<LineOutcome<'static>, NoMemory>
+    ensures { IfOk result (IsTold refusal) }
+{
+    match refusal {
+        ClusterRefusal::NoMemory => Err(NoMemory),
+        refusal => Ok(LineOutcome::Refused(Refusal::Applying(refusal))),
     }
 }

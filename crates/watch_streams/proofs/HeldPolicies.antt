@@ -9,7 +9,7 @@ use Rattle.cl_types.specs.Ascending.{Ascends, put}
 use Rattle.cl_types.specs.PolicyName.{PolicyName, IsPolicyName}
 use Rattle.cl_types.specs.RuleOrder.{policy_order, policy_order_total}
 use Rattle.cl_types.specs.Written.{policy_text}
-use Rattle.cluster_objects.specs.declared.egress.EgressObj.{EgressObj}
+use Rattle.cluster_objects.specs.Egress.{EgressData}
 use Rattle.cluster_objects.specs.declared.policy.Rule.{Rule}
 use Rattle.cluster_objects.specs.Policy.{PolicyData, IsRuleOf}
 use Rattle.cluster_objects.specs.Steps.{first}
@@ -60,7 +60,7 @@ first-over f (x ∷ xs) = first-append net_rule_key (f x) (flat_map f xs) ∙ ap
 abbrev policy_object : PolicyData → StreamObject
 policy_object p = object.Policy (net_policy p)
 
-abbrev egress_object : EgressObj → StreamObject
+abbrev egress_object : EgressData → StreamObject
 egress_object e = object.Egress (net_egress e)
 
 -- no two policies have one text
@@ -96,7 +96,7 @@ module _ (differ : PolicyTextsDiffer) where
     over-idle [] all = refl
     over-idle (o ∷ os) all = all.0 (over held_step a os) ∙ over-idle os all.1
 
-    over-objects : (ps : List PolicyData) (es : List EgressObj) → AllByRecursion IsWholePolicy ps → Ascends (λ (p : PolicyData). p.key) policy_order ps
+    over-objects : (ps : List PolicyData) (es : List EgressData) → AllByRecursion IsWholePolicy ps → Ascends (λ (p : PolicyData). p.key) policy_order ps
         → over held_step a (by_name (map policy_object ps ++ map egress_object es)) ≡ over (λ p. step (net_policy p)) a ps
     over-objects [] es whole up =
         over-idle (by_name (map egress_object es)) (all_by_name _ (map egress_object es) (all_map (λ o. (b : A) → held_step o b ≡ b) egress_object es (all_of _ (λ e b. refl) es)))
@@ -123,11 +123,11 @@ module _ (differ : PolicyTextsDiffer) where
         egresses = all_map Later egress_object es (all_of (λ e. Later (egress_object e)) (λ e. record { swap = λ b. refl; same = λ t b. refl }) es)
 
     -- steps over the policies that are held are steps over these policies
-    over-policies : (ps : List PolicyData) (es : List EgressObj) → AllByRecursion IsWholePolicy ps → Ascends (λ (p : PolicyData). p.key) policy_order ps
+    over-policies : (ps : List PolicyData) (es : List EgressData) → AllByRecursion IsWholePolicy ps → Ascends (λ (p : PolicyData). p.key) policy_order ps
         → over step a (flat_map policy_in (by_name (map policy_object ps ++ map egress_object es))) ≡ over (λ p. step (net_policy p)) a ps
     over-policies ps es whole up = over-held (by_name (map policy_object ps ++ map egress_object es)) ∙ over-objects ps es whole up
 
-  module _ (ps : List PolicyData) (es : List EgressObj) (whole : AllByRecursion IsWholePolicy ps) (up : Ascends (λ (p : PolicyData). p.key) policy_order ps) where
+  module _ (ps : List PolicyData) (es : List EgressData) (whole : AllByRecursion IsWholePolicy ps) (up : Ascends (λ (p : PolicyData). p.key) policy_order ps) where
     -- some policy passes where one that is held does
     pub any_held : (p : NetPolicyData → Bool) → list_any p (flat_map policy_in (by_name (map policy_object ps ++ map egress_object es))) ≡ list_any (λ r. p (net_policy r)) ps
     any_held p =

@@ -12,7 +12,7 @@ use Rattle.cl_types.specs.Text.{text_eq}
 use Rattle.cl_types.specs.Dir.{dir_eq}
 use Rattle.cl_types.specs.RuleOrder.{policy_order}
 use Rattle.label_select.specs.Group.{Group, IsGroup}
-use Rattle.cluster_objects.specs.declared.egress.EgressObj.{EgressObj}
+use Rattle.cluster_objects.specs.Egress.{EgressData}
 use Rattle.cluster_objects.specs.declared.policy.Rule.{Rule}
 use Rattle.cluster_objects.specs.Pod.{has_address}
 use Rattle.cluster_objects.specs.Evaluation.{peers_contain, services_match, applies, rule_matches, rule_key, rule_action, side_of, pod_on}
@@ -103,13 +103,13 @@ module _ (groups_differ : GroupTextsDiffer) (policies_differ : PolicyTextsDiffer
       of_policies = flat_map (λ (p : PolicyData). p.applied) (policies_on c node)
 
       of_egresses : List Group
-      of_egresses = map (λ (e : EgressObj). e.applied) (egresses_on c node)
+      of_egresses = map (λ (e : EgressData). e.applied) (egresses_on c node)
 
       policies_are : AllByRecursion IsGroup of_policies
       policies_are = all_flat_map IsGroup (λ (p : PolicyData). p.applied) (policies_on c node) (all_weaker IsWholePolicy (λ p. AllByRecursion IsGroup p.applied) (λ p is. is.applied) (policies_on c node) whole_on)
 
       egresses_are : AllByRecursion IsGroup of_egresses
-      egresses_are = all_map IsGroup (λ (e : EgressObj). e.applied) (egresses_on c node) (all_filter (λ (e : EgressObj). IsGroup e.applied) (egress_is_on c node) c.egresses whole.egresses)
+      egresses_are = all_map IsGroup (λ (e : EgressData). e.applied) (egresses_on c node) (all_filter (λ (e : EgressData). IsGroup e.applied) (egress_is_on c node) c.egresses whole.egresses)
 
   -- the groups of the peers of a policy on the node are held
   peers_on : AllByRecursion (λ p. policy_is_on c node p ≡ true → AllByRecursion (HeldAs (group_members c) held.addresses) (policy_groups p)) c.policies

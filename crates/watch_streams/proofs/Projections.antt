@@ -6,7 +6,7 @@ use Rattle.cl_types.specs.declared.stream.Stream.{Stream}
 use Rattle.cl_types.specs.declared.stream.Stream.TheVariants.{Policies, Addresses, Applied}
 use Rattle.cl_types.specs.Ascending.{Ascends}
 use Rattle.label_select.specs.Group.{Group, IsGroup}
-use Rattle.cluster_objects.specs.declared.egress.EgressObj.{EgressObj}
+use Rattle.cluster_objects.specs.Egress.{EgressData}
 use Rattle.cluster_objects.specs.Groups.{in_group}
 use Rattle.cluster_objects.specs.Pod.{PodData}
 use Rattle.cluster_objects.specs.Policy.{PolicyData}
@@ -50,7 +50,7 @@ is_map s os h = record {
 policies_are_parts : (ps : List PolicyData) → AllByRecursion (IsPart Policies) (map (λ p. object.Policy (net_policy p)) ps)
 policies_are_parts ps = all_map (IsPart Policies) (λ p. object.Policy (net_policy p)) ps (all_of (λ p. IsPart Policies (object.Policy (net_policy p))) (λ p. (refl, tt, tt)) ps)
 
-egresses_are_parts : (es : List EgressObj) → AllByRecursion (IsPart Policies) (map (λ e. object.Egress (net_egress e)) es)
+egresses_are_parts : (es : List EgressData) → AllByRecursion (IsPart Policies) (map (λ e. object.Egress (net_egress e)) es)
 egresses_are_parts es = all_map (IsPart Policies) (λ e. object.Egress (net_egress e)) es (all_of (λ e. IsPart Policies (object.Egress (net_egress e))) (λ e. (refl, tt, tt)) es)
 
 whole_policies_on : (c : ClusterData) (node : List ℕ) → IsWholeCluster c → AllByRecursion IsWholePolicy (policies_on c node)
@@ -73,7 +73,7 @@ projections_are c Addresses node h =
 projections_are c Applied node h =
     is_map Applied (on_applied c node)
     (group_parts Applied (λ g ms. refl) (members_on c node) (λ g. ascends_members (flat_map pod_members (filter (λ (p : PodData). is_on node p && in_group c g p) c.pods)))
-    (flat_map (λ (p : PolicyData). p.applied) (policies_on c node) ++ map (λ (e : EgressObj). e.applied) (egresses_on c node))
-    (all_append IsGroup (flat_map (λ (p : PolicyData). p.applied) (policies_on c node)) (map (λ (e : EgressObj). e.applied) (egresses_on c node))
+    (flat_map (λ (p : PolicyData). p.applied) (policies_on c node) ++ map (λ (e : EgressData). e.applied) (egresses_on c node))
+    (all_append IsGroup (flat_map (λ (p : PolicyData). p.applied) (policies_on c node)) (map (λ (e : EgressData). e.applied) (egresses_on c node))
     (groups_of_all (λ (p : PolicyData). p.applied) (λ p w. w.applied) (policies_on c node) (whole_policies_on c node h))
-    (all_map IsGroup (λ (e : EgressObj). e.applied) (egresses_on c node) (all_filter (λ (e : EgressObj). IsGroup e.applied) (egress_is_on c node) c.egresses h.egresses))))
+    (all_map IsGroup (λ (e : EgressData). e.applied) (egresses_on c node) (all_filter (λ (e : EgressData). IsGroup e.applied) (egress_is_on c node) c.egresses h.egresses))))

@@ -16,7 +16,9 @@ nothing_is_whole = record {
     nodes_ascend = tt;
     namespaces_ascend = tt;
     pods_ascend = tt;
+    tiers_ascend = ((refl, (refl, (refl, (refl, (refl, tt))))), ((refl, (refl, (refl, (refl, tt)))), ((refl, (refl, (refl, tt))), ((refl, (refl, tt)), ((refl, tt), (tt, tt))))));
     policies_ascend = tt;
+    egresses_ascend = tt;
     apart = tt;
     early = λ e. record { namespaces = refl; pods = refl; policies = refl; egresses = refl };
   };

@@ -7,7 +7,7 @@ use Rattle.cl_types.specs.declared.stream.Stream.TheVariants.{Policies, Addresse
 use Rattle.cl_types.specs.Ascending.{Ascends}
 use Rattle.cl_types.specs.PolicyName.{IsPolicyName}
 use Rattle.label_select.specs.Group.{IsGroup}
-use Rattle.cluster_objects.specs.declared.egress.EgressObj.{EgressObj}
+use Rattle.cluster_objects.specs.Egress.{EgressData}
 use Rattle.cluster_objects.specs.declared.policy.Peer.{Peer}
 use Rattle.cluster_objects.specs.declared.policy.Peer.TheVariants as peer
 use Rattle.cluster_objects.specs.declared.policy.Rule.{Rule}
@@ -45,7 +45,7 @@ pub record IsWholePolicy (p : PolicyData) : Type 0 where
 pub record IsWholeCluster (c : ClusterData) : Type 0 where
   pub cluster : IsCluster c
   pub policies : AllByRecursion IsWholePolicy c.policies
-  pub egresses : AllByRecursion (λ (e : EgressObj). IsGroup e.applied) c.egresses
+  pub egresses : AllByRecursion (λ (e : EgressData). IsGroup e.applied) c.egresses
 
 -- ---- the law of one revision
 

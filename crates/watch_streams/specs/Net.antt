@@ -18,6 +18,7 @@ use Rattle.cl_types.specs.RuleOrder.{rule_order}
 use Rattle.label_select.specs.Group.{Group}
 use Rattle.cluster_objects.specs.Pod.{port_order}
 use Rattle.watch_streams.specs.declared.net.NetRule.{NetRule}
+use Rattle.cluster_objects.specs.Tier.{baseline_tier, kube_tier}
 
 -- ---- policies
 
@@ -35,7 +36,7 @@ net_isolates p Egress = p.isolates_out
 
 -- a rule of a Kubernetes policy only allows, in a direction in which the policy isolates
 pub record IsNetKubeRule (p : NetPolicyData) (r : NetRule) : Type 0 where
-  pub tier : r.key.tier ≡ 255
+  pub tier : r.key.tier ≡ kube_tier
   pub priority : r.key.priority ≡ 0
   pub action : r.action ≡ Allow
   pub direction : net_isolates p r.key.dir ≡ true
@@ -50,7 +51,7 @@ pub record IsNetPolicy (p : NetPolicyData) : Type 0 where
   pub keyed : AllByRecursion (λ (r : NetRule). r.key.policy ≡ p.key) p.rules
   pub in_order : Ascends (λ (r : NetRule). r.key) rule_order p.rules
   pub applies : p.applied ≢ []
-  pub baseline : AllByRecursion (λ (r : NetRule). r.key.tier ≡ 253 → r.action ≢ Pass) p.rules
+  pub baseline : AllByRecursion (λ (r : NetRule). r.key.tier ≡ baseline_tier → r.action ≢ Pass) p.rules
   pub kubernetes : p.key.kind ≡ Kube → IsNetKubePolicy p
 
 -- ---- Egresses

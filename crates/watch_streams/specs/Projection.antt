@@ -12,7 +12,7 @@ use Rattle.cl_types.specs.Text.{text_eq}
 use Rattle.label_select.specs.declared.group.Scope.TheVariants.{Namespaces}
 use Rattle.label_select.specs.Group.{Group}
 use Rattle.label_select.specs.Written.{group_text}
-use Rattle.cluster_objects.specs.declared.egress.EgressObj.{EgressObj}
+use Rattle.cluster_objects.specs.Egress.{EgressData}
 use Rattle.cluster_objects.specs.declared.policy.Block.{Block}
 use Rattle.cluster_objects.specs.declared.policy.Peer.{Peer}
 use Rattle.cluster_objects.specs.declared.policy.Peer.TheVariants as peer
@@ -57,7 +57,7 @@ abbrev pub net_policy : PolicyData → NetPolicyData
 net_policy p =
     record { key = p.key; applied = p.applied; isolates_in = p.isolates_in; isolates_out = p.isolates_out; rules = map net_rule p.rules }
 
-abbrev pub net_egress : EgressObj → NetEgressData
+abbrev pub net_egress : EgressData → NetEgressData
 net_egress e = record { name = e.name; address = e.address; node = e.node; applied = e.applied }
 
 -- ---- members of groups
@@ -81,17 +81,17 @@ abbrev pub policy_is_on : ClusterData → List ℕ → PolicyData → Bool
 policy_is_on c node policy = list_any (λ p. is_on node p && applies c policy p) c.pods
 
 -- an Egress counts where its node is listed
-abbrev pub egress_counts : ClusterData → EgressObj → Bool
+abbrev pub egress_counts : ClusterData → EgressData → Bool
 egress_counts c e = list_any (λ (n : NodeData). text_eq n.name e.node) c.nodes
 
 -- the Egress counts, and selects a counting pod on the node or leaves by it
-abbrev pub egress_is_on : ClusterData → List ℕ → EgressObj → Bool
+abbrev pub egress_is_on : ClusterData → List ℕ → EgressData → Bool
 egress_is_on c node e = egress_counts c e && (text_eq e.node node || list_any (λ p. is_on node p && in_group c e.applied p) c.pods)
 
 abbrev pub policies_on : ClusterData → List ℕ → List PolicyData
 policies_on c node = filter (policy_is_on c node) c.policies
 
-abbrev pub egresses_on : ClusterData → List ℕ → List EgressObj
+abbrev pub egresses_on : ClusterData → List ℕ → List EgressData
 egresses_on c node = filter (egress_is_on c node) c.egresses
 
 -- all pods
@@ -132,7 +132,7 @@ on_addresses c node = map (group_object (group_members c)) (flat_map policy_grou
 abbrev pub on_applied : ClusterData → List ℕ → List StreamObject
 on_applied c node =
     map (group_object (members_on c node))
-    (flat_map (λ (p : PolicyData). p.applied) (policies_on c node) ++ map (λ (e : EgressObj). e.applied) (egresses_on c node))
+    (flat_map (λ (p : PolicyData). p.applied) (policies_on c node) ++ map (λ (e : EgressData). e.applied) (egresses_on c node))
 
 -- what belongs on a stream of a node, in the order of names
 abbrev pub projection : ClusterData → Stream → List ℕ → List StreamObject

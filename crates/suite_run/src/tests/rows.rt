@@ -10,6 +10,9 @@ const N2: &[u8] =
 const N3: &[u8] =
     br#"{"type":"ADDED","object":{"apiVersion":"v1","kind":"Node","metadata":{"name":"n3"},"spec":{"podCIDR":"10.10.3.0/24"}}}"#;
 
+const N3_IN_N1: &[u8] =
+    br#"{"type":"ADDED","object":{"apiVersion":"v1","kind":"Node","metadata":{"name":"n3"},"spec":{"podCIDR":"10.10.1.128/25"}}}"#;
+
 const N3_TOO_SHORT: &[u8] =
     br#"{"apiVersion":"v1","kind":"Node","metadata":{"name":"n3"},"spec":{"podCIDR":"10.0.0.0/7"}}"#;
 
@@ -74,6 +77,8 @@ const ROWS: &[Row] = &[
         1,
         b"1 nodes 1\n2 revision 1\n3 unchanged\n4 refused NodesFixed\n",
     ),
+    // The pod CIDRs of two nodes don't meet.
+    (&[N1, N3_IN_N1], 1, b"1 nodes 1\n2 refused CidrOverlap n1\n"),
     // A finished pod holds no address.
     (
         &[N1, JOB_DONE, WEB, JOB],

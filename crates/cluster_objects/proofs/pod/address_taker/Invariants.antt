@@ -1,5 +1,5 @@
 use Rattle.std.proofs.Common.{◌≡◌, drop, find}
-use Rattle.cluster_objects.specs.Apply.{takes_address}
+use Rattle.cluster_objects.specs.Refusals.{takes_address}
 use Rattle.cluster_objects.proofs.pod.address_taker.Given as goal
 
 -- what is sought is among the pods that are left

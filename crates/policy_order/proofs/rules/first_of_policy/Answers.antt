@@ -7,7 +7,7 @@ use Rattle.policy_order.proofs.rules.first_of_policy.Goals as goal
 
 pub loop-i-preserved-then-is_wanted : goal.loop-i-preserved-then-is_wanted
 loop-i-preserved-then-is_wanted c = λ later h.
-    let p : Rule → Bool = λ r. in_stage c.args.stage c.args.policy.now.key.kind r.key && rule_matches c.args.c.now c.args.policy.now r c.args.pod.now c.args.q.now in
+    let p : Rule → Bool = λ r. in_stage c.args.stage c.args.policy.now.key.kind r.key && rule_matches c.args.c.now.cluster c.args.policy.now r c.args.pod.now c.args.q.now in
     let place : c.loop-i.i ≡ c.loop-i.i - 1 + 1 = omega arith in
     ap Some c.earlier.ensures
     ∙ wanted_more p c.as_slice-rules.result.now later (c.loop-i.i - 1) c.index-rules-i.result (option_copied c.loop-i.found) (search rules) c.index-rules-i.is (sym c.if-is_wanted.ensures)

@@ -8,4 +8,4 @@ use Rattle.policy_order.proofs.rules.first_of_policy.Given as goal
 abbrev pub invariant-loop-i : goal.invariant-loop-i
 invariant-loop-i l =
     (later : List Rule) → option_copied l.fn.after ≡ first rule_key later
-    → option_copied l.found ≡ first rule_key (filter (λ r. in_stage l.stage l.policy.key.kind r.key && rule_matches l.c l.policy r l.pod l.q) (drop l.i l.rules) ++ later)
+    → option_copied l.found ≡ first rule_key (filter (λ r. in_stage l.stage l.policy.key.kind r.key && rule_matches l.c.cluster l.policy r l.pod l.q) (drop l.i l.rules) ++ later)

@@ -7,4 +7,4 @@ use Rattle.policy_order.proofs.rules.first_rule.Given as goal
 -- the first of the rules of the policies that were looked at
 abbrev pub invariant-loop-i : goal.invariant-loop-i
 invariant-loop-i l =
-    option_copied l.found ≡ first rule_key (flat_map (λ policy. filter (λ r. in_stage l.stage policy.key.kind r.key && rule_matches l.c policy r l.pod l.q) policy.rules) (drop l.i l.policies))
+    option_copied l.found ≡ first rule_key (flat_map (λ policy. filter (λ r. in_stage l.stage policy.key.kind r.key && rule_matches l.c.cluster policy r l.pod l.q) policy.rules) (drop l.i l.policies))

@@ -6,6 +6,7 @@ use Rattle.cl_io.specs.ReaderLaws.{Kept-then}
 use Rattle.cl_io.specs.Sink.{Takes}
 use Rattle.suite_run.specs.declared.status.Status.{Status}
 use Rattle.suite_run.specs.Run.{Ran}
+use Rattle.suite_run.specs.Shown.{world_of}
 use Rattle.suite_run.specs.World.{line_limit}
 use Rattle.suite_run.proofs.Ending.{Leaving, rose_more, leaving, part_front, no_memory, write_fault, line_fault, finished}
 use Rattle.suite_run.proofs.Running.{handed, telling, Running-none, Running-more, next_front, next_faultless, all_taken, of_err, or_then, or_else}
@@ -13,7 +14,7 @@ use Rattle.suite_run.proofs.replay.replay.Goals as goal
 use Rattle.suite_run.proofs.replay.replay.Goals.{then-refused, else-refused}
 
 pub loop-number-init : goal.loop-number-init
-loop-number-init g c = Running-none _ _ _ c.args.lines.now c.in-Ok.world c.requires.fresh c.requires.stands c.in-Ok.ensures
+loop-number-init g c = Running-none _ _ _ c.args.lines.now (world_of c.in-Ok.world) c.requires.fresh c.requires.stands c.in-Ok.ensures
 
 pub take_line-requires : goal.take_line-requires
 take_line-requires g c =
@@ -63,7 +64,7 @@ returns-then-is_err g c =
     let takes = subst T c.as_slice.ensures c.put.ensures.takes in
     let S : List ℕ → Type 0 = λ z. IsTrue o.steady → IfSome o.free (λ room. length z ≤ room → Succeeds c.put.result o.faults o'.faults) in
     let succeeds = subst S c.as_slice.ensures c.put.ensures.succeeds in
-    let front = λ (t : IsSome f'.taken). next_front _ _ _ _ _ _ _ _ _ run c.next.new.self f' c.in-Ok-next.line h c.take_line.new.world c.in-Ok-take_line.block follows kept (g.met.F.Files.truthful c.next.new.files) t in
+    let front = λ (t : IsSome f'.taken). next_front _ _ _ _ _ _ _ _ _ run c.next.new.self f' c.in-Ok-next.line h (world_of c.take_line.new.world) c.in-Ok-take_line.block follows kept (g.met.F.Files.truthful c.next.new.files) t in
     let left : Leaving c.args.lines.now.names f0 o0 f' o' = record {
       reading = c.next.new.self;
       kept = kept;
@@ -93,6 +94,6 @@ loop-number-preserved g c =
     let S : List ℕ → Type 0 = λ z. IsTrue o.steady → IfSome o.free (λ room. length z ≤ room → Succeeds c.put.result o.faults o'.faults) in
     let succeeds = subst S c.as_slice.ensures c.put.ensures.succeeds in
     let w = all_taken c.in-Ok-take_line.block.text c.put.result o o' takes (search rules) in
-    Running-more _ _ _ _ _ _ _ _ _ run c.next.new.self f' c.in-Ok-next.line h c.take_line.new.world c.in-Ok-take_line.block follows kept (g.met.F.Files.truthful c.next.new.files) c.put.result o' c.if-refused.refused
+    Running-more _ _ _ _ _ _ _ _ _ run c.next.new.self f' c.in-Ok-next.line h (world_of c.take_line.new.world) c.in-Ok-take_line.block follows kept (g.met.F.Files.truthful c.next.new.files) c.put.result o' c.if-refused.refused
     (n.uses some) w.0 w.1 c.put.ensures.endures succeeds
     (elim c.if-refused.branch [ then-refused w ↦ or_then _ _ _ w.if-refused.true w.refused-is | else-refused w ↦ or_else _ _ _ w.if-refused.false w.refused-is ])

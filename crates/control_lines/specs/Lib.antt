@@ -1,0 +1,4 @@
+pub mod Control
+pub mod Needed
+pub mod Orders
+pub mod Words

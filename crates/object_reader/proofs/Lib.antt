@@ -1,0 +1,3 @@
+pub mod NodeBlocks
+pub mod PodAddresses
+pub mod ReadTexts

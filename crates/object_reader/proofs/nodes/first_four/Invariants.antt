@@ -1,0 +1,7 @@
+use Rattle.std.proofs.Common.{◌≡◌, drop, find}
+use Rattle.object_reader.specs.Texts.{has_no_colon}
+use Rattle.object_reader.proofs.nodes.first_four.Given as goal
+
+-- what is sought is among the texts that are left
+abbrev pub invariant-loop-text : goal.invariant-loop-text
+invariant-loop-text l = find has_no_colon (drop l.text-index l.texts) ≡ find has_no_colon l.texts

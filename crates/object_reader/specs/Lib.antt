@@ -1,0 +1,8 @@
+pub mod Blocks
+pub mod Egresses
+pub mod Groups
+pub mod Nodes
+pub mod Pods
+pub mod Pools
+pub mod Texts
+pub mod Tiers

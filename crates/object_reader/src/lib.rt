@@ -1,0 +1,28 @@
+//! Reading the objects that aren't policies: nodes, namespaces, pods, tiers, Egresses, cluster groups and pools.
+#![tactic(auto)]
+
+mod blocks;
+mod egresses;
+mod groups;
+mod nodes;
+mod pods;
+mod pools;
+mod texts;
+mod tiers;
+
+pub use blocks::{block_fault, block_value};
+pub use egresses::{egress_fault, egress_item};
+pub use groups::{
+    cluster_group, group_fault, group_value, has_namespace_selector, has_selector,
+    namespace_selector, pod_selector, selectors_fault,
+};
+pub use nodes::{
+    name_of, namespace_fault, namespace_name, namespace_value, node_fault, node_value,
+};
+pub use pods::{pod_fault, pod_key, pod_value};
+pub use pools::{pool_fault, pool_value};
+pub use texts::{four_of, has_colon, read_address, read_block, six_of};
+pub use tiers::{tier_fault, tier_value};
+
+#[cfg(test)]
+mod tests;
