@@ -1,6 +1,16 @@
 pub mod Apart
-pub mod FirstRule
+pub mod BlocksApart
+pub mod BlocksMeet
+pub mod ChangeLaws
+pub mod IndexEdits
+pub mod Keeping
+pub mod Marks
 pub mod Numbered
+pub mod OneKind
+pub mod PodIndex
 pub mod Puts
 pub mod Refusals
+pub mod TakenBack
 pub mod Tiers
+pub mod TiersKept
+pub mod Within

@@ -1,15 +1,16 @@
 -- A native policy stays one when its rules get the number of a tier.
-use Rattle.std.proofs.Common.{◌≡◌, ℕ, List, [], ◌∷◌, Bool, true, false, map, sym, ◌∙◌}
+use Rattle.std.proofs.Common.{◌≡◌, ℕ, List, [], ◌∷◌, false, map}
 use Rattle.std.specs.List.{AllByRecursion}
 use Rattle.std.specs.declared.cmp.Ordering.TheVariants.{Less}
 use Rattle.std.proofs.lemmas.Bool.{true≢false}
 use Rattle.cl_types.specs.declared.keys.PolicyKind.{PolicyKind}
 use Rattle.cl_types.specs.declared.keys.PolicyKind.TheVariants.{Cluster, Antrea, Kube}
 use Rattle.cl_types.specs.Ascending.{Ascends}
-use Rattle.cluster_objects.specs.declared.policy.Rule.{Rule}
+use Rattle.cluster_types.specs.declared.policy.Rule.{Rule}
 use Rattle.cluster_objects.specs.Apply.{in_tier}
-use Rattle.cluster_objects.specs.Policy.{PolicyData, IsPolicy, IsPolicyOfKind, IsNativePolicy, place_order}
-use Rattle.cluster_objects.specs.Steps.{is_kube}
+use Rattle.cluster_types.specs.Policy.{PolicyData, IsPolicy, IsPolicyOfKind, IsNativePolicy, place_order}
+use Rattle.cluster_types.specs.Steps.{is_kube}
+use Rattle.cluster_types.specs.Whole.{IsWholePolicy, IsWholeRule}
 
 module _ (n : ℕ) where
   -- what doesn't look at the tier holds of all rules still
@@ -45,4 +46,12 @@ module _ (n : ℕ) where
     of_kind = of_kind p.key.kind p not_kube is.of_kind;
     keyed = all_in_tier _ (λ r of_policy. of_policy) p.rules is.keyed;
     in_order = in_order p.rules is.in_order;
+  }
+
+  pub is_whole_policy_still : (p : PolicyData) → is_kube p.key.kind ≡ false → IsWholePolicy p → IsWholePolicy (renumbered p)
+  is_whole_policy_still p not_kube is = record {
+    policy = is_policy_still p not_kube is.policy;
+    name = is.name;
+    applied = is.applied;
+    peers = all_in_tier IsWholeRule (λ r whole. whole) p.rules is.peers;
   }

@@ -1,5 +1,6 @@
 -- Where nothing stands against a change, none of its checks does.
-use Rattle.std.proofs.Common.{◌≡◌, List, [], ◌∷◌, Bool, true, false, Option, Some, None, option_map, refl}
+use Rattle.std.proofs.Common.{◌≡◌, List, [], ◌∷◌, Bool, true, false, ◌||◌, Option, Some, None, option_map, refl}
+use Rattle.std.specs.List.{list_any, AllByRecursion}
 use Rattle.cluster_objects.specs.declared.change.ClusterRefusal.{ClusterRefusal}
 use Rattle.cluster_objects.specs.Refusals.{when, first_refusal}
 
@@ -19,3 +20,14 @@ none_first (Some r) os e = cc
 pub none_later : (o : Option ClusterRefusal) (os : List (Option ClusterRefusal)) → first_refusal (o ∷ os) ≡ None → first_refusal os ≡ None
 none_later None os e = e
 none_later (Some r) os e = cc
+
+pub neither : (p q : Bool) → p || q ≡ false → (p ≡ false) × (q ≡ false)
+neither false q h = (refl, h)
+neither true q h = cc
+
+-- where none passes, each doesn't
+pub none_passes : {T : Type 0} (p : T → Bool) (xs : List T) → list_any p xs ≡ false → AllByRecursion (λ x. p x ≡ false) xs
+none_passes p [] none = tt
+none_passes p (x ∷ xs) none =
+    let parts = neither (p x) (list_any p xs) none in
+    (parts.0, none_passes p xs parts.1)

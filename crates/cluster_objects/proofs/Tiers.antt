@@ -12,12 +12,12 @@ use Rattle.cl_types.specs.Ascending.{Ascends, found}
 use Rattle.cl_types.specs.AscendingLaws.{none_behind}
 use Rattle.cl_types.specs.Text.{text_eq}
 use Rattle.cluster_objects.specs.Apply.{at_tier}
-use Rattle.cluster_objects.specs.Tier.{TierData, tier_named}
+use Rattle.cluster_types.specs.Tier.{TierData, tier_named}
 
-abbrev By : List TierData → Type 0
+abbrev pub By : List TierData → Type 0
 By ts = Ascends (λ (t : TierData). t.priority) nat_cmp ts
 
-some_one : {T : Type 0} {x y : T} → Some x ≡ Some y → x ≡ y
+pub some_one : {T : Type 0} {x y : T} → Some x ≡ Some y → x ≡ y
 some_one e = cc
 
 -- what a search by any test finds stands at its own key
@@ -40,10 +40,10 @@ module _ (p : TierData → Bool) where
 
 -- where the tier keeps its priority and no other has it, what has its priority is what has its name
 module _ (t : TierData) where
-  abbrev keeps : Option TierData → Bool
+  abbrev pub keeps : Option TierData → Bool
   keeps o = option_map_or (λ (s : TierData). not (s.priority == t.priority)) o false
 
-  abbrev takes : TierData → Bool
+  abbrev pub takes : TierData → Bool
   takes s = not (text_eq s.name t.name) && (s.priority == t.priority)
 
   pub one_tier : (ts : List TierData) → By ts → keeps (tier_named t.name ts) ≡ false → find takes ts ≡ None → found (at_tier t.priority) ts ≡ tier_named t.name ts

@@ -1,5 +1,5 @@
 -- What a change does to a cluster (this project's own rules).
-use Rattle.std.specs.Prelude.{◌≡◌, ℕ, List, [], ◌∷◌, Bool, true, false, not, ◌&&◌, ◌||◌, Option, Some, None, option_map, Result, Ok, Err, if◌then◌else◌, map}
+use Rattle.std.specs.Prelude.{ℕ, List, Bool, true, false, not, Option, Some, None, if◌then◌else◌, map}
 use Rattle.std.specs.Option.{is_some, option_map_or}
 use Rattle.std.specs.declared.cmp.Ordering.{Ordering}
 use Rattle.std.specs.Ordering.{nat_cmp}
@@ -11,26 +11,26 @@ use Rattle.cl_types.specs.RuleOrder.{policy_order, pod_order}
 use Rattle.cl_types.specs.Text.{text_order}
 use Rattle.cluster_objects.specs.declared.change.Applied.{Applied}
 use Rattle.cluster_objects.specs.declared.change.Applied.TheVariants.{Changed, Unchanged}
-use Rattle.cluster_objects.specs.declared.change.Change.{Change}
-use Rattle.cluster_objects.specs.declared.change.Change.TheVariants.{Put, Remove}
-use Rattle.cluster_objects.specs.declared.change.Object.{Object}
-use Rattle.cluster_objects.specs.declared.change.Object.TheVariants as object
-use Rattle.cluster_objects.specs.declared.change.ObjectKey.{ObjectKey}
-use Rattle.cluster_objects.specs.declared.change.ObjectKey.TheVariants as key
-use Rattle.cluster_objects.specs.declared.egress.EgressObj as egress
-use Rattle.cluster_objects.specs.declared.node.Namespace as namespace
-use Rattle.cluster_objects.specs.declared.node.NodeInfo as node
-use Rattle.cluster_objects.specs.declared.pod.Pod as pod
-use Rattle.cluster_objects.specs.declared.policy.Policy as policy
-use Rattle.cluster_objects.specs.declared.policy.Rule.{Rule}
-use Rattle.cluster_objects.specs.declared.policy.Tier as tier
-use Rattle.cluster_objects.specs.Cluster.{ClusterData}
-use Rattle.cluster_objects.specs.Egress.{EgressData}
-use Rattle.cluster_objects.specs.Node.{NamespaceData, NodeData}
-use Rattle.cluster_objects.specs.Pod.{PodData}
-use Rattle.cluster_objects.specs.Policy.{PolicyData}
-use Rattle.cluster_objects.specs.Steps.{is_kube}
-use Rattle.cluster_objects.specs.Tier.{TierData, tier_named, name_meant}
+use Rattle.cluster_types.specs.declared.change.Change.{Change}
+use Rattle.cluster_types.specs.declared.change.Change.TheVariants.{Put, Remove}
+use Rattle.cluster_types.specs.declared.change.Object.{Object}
+use Rattle.cluster_types.specs.declared.change.Object.TheVariants as object
+use Rattle.cluster_types.specs.declared.change.ObjectKey.{ObjectKey}
+use Rattle.cluster_types.specs.declared.change.ObjectKey.TheVariants as key
+use Rattle.cluster_types.specs.declared.egress.EgressObj as egress
+use Rattle.cluster_types.specs.declared.node.Namespace as namespace
+use Rattle.cluster_types.specs.declared.node.NodeInfo as node
+use Rattle.cluster_types.specs.declared.pod.Pod as pod
+use Rattle.cluster_types.specs.declared.policy.Policy as policy
+use Rattle.cluster_types.specs.declared.policy.Rule.{Rule}
+use Rattle.cluster_types.specs.declared.policy.Tier as tier
+use Rattle.cluster_types.specs.Cluster.{ClusterData}
+use Rattle.cluster_types.specs.Egress.{EgressData}
+use Rattle.cluster_types.specs.Node.{NamespaceData, NodeData}
+use Rattle.cluster_types.specs.Pod.{PodData}
+use Rattle.cluster_types.specs.Policy.{PolicyData}
+use Rattle.cluster_types.specs.Steps.{is_kube}
+use Rattle.cluster_types.specs.Tier.{TierData, tier_named, name_meant}
 
 abbrev pub makes_difference : Applied → Bool
 makes_difference Changed = true

@@ -1,22 +1,22 @@
 -- A change of a cluster, a list of changes, and how a change is taken back (this project's own).
-use Rattle.std.specs.Prelude.{◌≡◌, ℕ, List, [], ◌∷◌, Bool, true, false, not, ◌&&◌, ◌||◌, Option, Some, None, option_map, Result, Ok, Err}
+use Rattle.std.specs.Prelude.{◌≡◌, List, [], ◌∷◌, Bool, true, false, not, ◌&&◌, ◌||◌, Option, Some, None, option_map, Result, Ok, Err}
 use Rattle.std.specs.Option.{option_map_or}
 use Rattle.cl_types.specs.Ascending.{found}
 use Rattle.cluster_objects.specs.declared.change.Applied.{Applied}
-use Rattle.cluster_objects.specs.declared.change.Change.{Change}
-use Rattle.cluster_objects.specs.declared.change.Change.TheVariants.{Put, Remove}
+use Rattle.cluster_types.specs.declared.change.Change.{Change}
+use Rattle.cluster_types.specs.declared.change.Change.TheVariants.{Put, Remove}
 use Rattle.cluster_objects.specs.declared.change.ClusterRefusal.{ClusterRefusal}
 use Rattle.cluster_objects.specs.declared.change.ClusterRefusal.TheVariants.{NoMemory}
 use Rattle.cluster_objects.specs.declared.change.Kept.{Kept}
-use Rattle.cluster_objects.specs.declared.change.Object.{Object}
-use Rattle.cluster_objects.specs.declared.change.Object.TheVariants as object
-use Rattle.cluster_objects.specs.declared.change.ObjectKey.{ObjectKey}
-use Rattle.cluster_objects.specs.declared.change.ObjectKey.TheVariants as key
+use Rattle.cluster_types.specs.declared.change.Object.{Object}
+use Rattle.cluster_types.specs.declared.change.Object.TheVariants as object
+use Rattle.cluster_types.specs.declared.change.ObjectKey.{ObjectKey}
+use Rattle.cluster_types.specs.declared.change.ObjectKey.TheVariants as key
 use Rattle.cluster_objects.specs.declared.change.Undo.{Undo}
 use Rattle.cluster_objects.specs.Apply.{Outcome, outcome, makes_difference, made, numbered, with_object, without_object, at_node, at_namespace, at_pod, at_policy, at_egress}
-use Rattle.cluster_objects.specs.Cluster.{ClusterData}
+use Rattle.cluster_types.specs.Cluster.{ClusterData}
 use Rattle.cluster_objects.specs.Refusals.{checks, first_refusal}
-use Rattle.cluster_objects.specs.Tier.{tier_named}
+use Rattle.cluster_types.specs.Tier.{tier_named}
 
 abbrev pub unless : Option ClusterRefusal → Outcome → Result Outcome ClusterRefusal
 unless None outcome = Ok outcome

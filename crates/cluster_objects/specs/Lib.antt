@@ -1,14 +1,6 @@
+pub mod Addresses
 pub mod Apply
 pub mod Changes
-pub mod Cluster
-pub mod Egress
-pub mod Evaluation
-pub mod Groups
-pub mod Limits
-pub mod Node
-pub mod Pod
-pub mod Policy
+pub mod Laws
+pub mod PodAtLaws
 pub mod Refusals
-pub mod Steps
-pub mod StepsLaws
-pub mod Tier

@@ -1,37 +1,32 @@
 -- Why a change of a cluster is refused (this project's own rules).
-use Rattle.std.specs.Prelude.{ℕ, ◌+◌, List, [], ◌∷◌, length, Bool, true, false, not, ◌&&◌, ◌||◌, ◌==◌, nat_lt, Option, Some, None, option_map, if◌then◌else◌, find}
+use Rattle.std.specs.Prelude.{ℕ, List, [], ◌∷◌, length, Bool, false, not, ◌&&◌, ◌==◌, nat_lt, Option, Some, None, option_map, if◌then◌else◌, find}
 use Rattle.std.specs.Option.{is_some, is_none, option_map_or}
 use Rattle.std.specs.List.{list_any}
 use Rattle.std.specs.Ordering.{is_eq}
-use Rattle.cl_types.specs.declared.keys.PolicyKind.{PolicyKind}
-use Rattle.cl_types.specs.declared.keys.PolicyKind.TheVariants.{Cluster, Antrea, Kube}
 use Rattle.cl_types.specs.Addr.{addr_order}
-use Rattle.cl_types.specs.Ascending.{found, put, sorted_set}
-use Rattle.cl_types.specs.Prefix.{PrefixData, holds}
-use Rattle.cl_types.specs.RuleOrder.{pod_order, policy_order}
-use Rattle.cl_types.specs.Service.{PortRange}
+use Rattle.cl_types.specs.Ascending.{put, sorted_set}
+use Rattle.cl_types.specs.RuleOrder.{pod_order}
 use Rattle.cl_types.specs.Text.{text_eq}
-use Rattle.cluster_objects.specs.declared.change.Change.{Change}
-use Rattle.cluster_objects.specs.declared.change.Change.TheVariants.{Put, Remove}
+use Rattle.cluster_types.specs.declared.change.Change.{Change}
+use Rattle.cluster_types.specs.declared.change.Change.TheVariants.{Put, Remove}
 use Rattle.cluster_objects.specs.declared.change.ClusterRefusal.{ClusterRefusal}
 use Rattle.cluster_objects.specs.declared.change.ClusterRefusal.TheVariants.{NodesFixed, CidrOverlap, TierFixed, TierTaken, TierInUse, NoSuchTier, AddressInUse, TooMany, TooManyMarks}
-use Rattle.cluster_objects.specs.declared.change.Object.TheVariants as object
-use Rattle.cluster_objects.specs.declared.change.ObjectKey.TheVariants as key
-use Rattle.cluster_objects.specs.declared.policy.Block.{Block}
-use Rattle.cluster_objects.specs.declared.policy.Peer.{Peer}
-use Rattle.cluster_objects.specs.declared.policy.Peer.TheVariants as peer
-use Rattle.cluster_objects.specs.declared.policy.Rule.{Rule}
+use Rattle.cluster_types.specs.declared.change.Object.TheVariants as object
+use Rattle.cluster_types.specs.declared.change.ObjectKey.TheVariants as key
+use Rattle.cluster_types.specs.declared.policy.Peer.{Peer}
+use Rattle.cluster_types.specs.declared.policy.Rule.{Rule}
 use Rattle.cluster_objects.specs.declared.totals.Total.{Total}
 use Rattle.cluster_objects.specs.declared.totals.Total.TheVariants.{PoliciesOf, NativeRules, KubeRules}
 use Rattle.cluster_objects.specs.Apply.{makes_difference, made, at_node, at_namespace, at_pod, at_tier, at_policy, at_egress, tier_of_policy}
-use Rattle.cluster_objects.specs.Cluster.{ClusterData}
-use Rattle.cluster_objects.specs.Egress.{EgressData, addresses_beside}
-use Rattle.cluster_objects.specs.Limits.{max_nodes, max_namespaces, max_pods, max_tiers, max_policies, max_egresses, max_rules, max_peers, max_ports, max_applied, max_excepts, max_native_rules, max_kube_rules, max_named_ports, max_marks}
-use Rattle.cluster_objects.specs.Node.{NodeData, NamespaceData}
-use Rattle.cluster_objects.specs.Pod.{PodData, counts, has_address}
-use Rattle.cluster_objects.specs.Policy.{PolicyData}
-use Rattle.cluster_objects.specs.Steps.{is_kube}
-use Rattle.cluster_objects.specs.Tier.{TierData, tier_named, name_meant, is_static}
+use Rattle.cluster_types.specs.Cluster.{ClusterData}
+use Rattle.cluster_types.specs.Counts.{total, count_of_kind, native_rule_count, kube_rule_count, peers_of, port_count, except_count}
+use Rattle.cluster_types.specs.Egress.{EgressData, addresses_beside}
+use Rattle.cluster_types.specs.Limits.{max_nodes, max_namespaces, max_pods, max_tiers, max_policies, max_egresses, max_rules, max_peers, max_ports, max_applied, max_excepts, max_native_rules, max_kube_rules, max_named_ports, max_marks}
+use Rattle.cluster_types.specs.Node.{NodeData, nodes_meet}
+use Rattle.cluster_types.specs.Pod.{PodData, counts, has_address}
+use Rattle.cluster_types.specs.Policy.{PolicyData}
+use Rattle.cluster_types.specs.Steps.{is_kube}
+use Rattle.cluster_types.specs.Tier.{TierData, tier_named, name_meant, is_static}
 
 abbrev pub when : Bool → ClusterRefusal → Option ClusterRefusal
 when b refusal = if b then Some refusal else None
@@ -41,18 +36,6 @@ when b refusal = if b then Some refusal else None
 -- once the nodes are fixed, no change of a Node may make a difference
 abbrev pub nodes_fixed : ClusterData → Change → Option ClusterRefusal
 nodes_fixed c change = when (c.fixed && makes_difference (made c change).applied) NodesFixed
-
--- Two blocks have an address in common. Blocks of one family are nested or have none, so one contains the other's base.
-abbrev pub blocks_meet : PrefixData → PrefixData → Bool
-blocks_meet a b = holds a b.base || holds b a.base
-
-abbrev pub both_meet : Option PrefixData → Option PrefixData → Bool
-both_meet (Some a) (Some b) = blocks_meet a b
-both_meet _ _ = false
-
--- a block of the one meets a block of the other
-abbrev pub nodes_meet : NodeData → NodeData → Bool
-nodes_meet n m = blocks_meet n.cidr m.cidr || both_meet n.cidr6 m.cidr6
 
 -- the first other node with a block that meets one of the node
 abbrev pub cidr_overlap : ClusterData → NodeData → Option ClusterRefusal
@@ -110,37 +93,15 @@ over limit count = when (nat_lt limit count) (TooMany limit)
 abbrev pub some_over : {T : Type 0} → ℕ → (T → ℕ) → List T → Option ClusterRefusal
 some_over limit count xs = when (list_any (λ x. nat_lt limit (count x)) xs) (TooMany limit)
 
--- what all of these have together
-abbrev pub total : {T : Type 0} → (T → ℕ) → List T → ℕ
-total count [] = 0
-total count (x ∷ xs) = count x + total count xs
-
-abbrev pub same_kind : PolicyKind → PolicyKind → Bool
-same_kind Cluster Cluster = true
-same_kind Antrea Antrea = true
-same_kind Kube Kube = true
-same_kind _ _ = false
-
 -- as how many a policy counts in a total of policies of a kind, of native rules, of Kubernetes rules
 abbrev pub counted : Total → PolicyData → ℕ
-counted (PoliciesOf kind) p = if same_kind p.key.kind kind then 1 else 0
-counted NativeRules p = if is_kube p.key.kind then 0 else length p.rules
-counted KubeRules p = if is_kube p.key.kind then length p.rules else 0
+counted (PoliciesOf kind) = count_of_kind kind
+counted NativeRules = native_rule_count
+counted KubeRules = kube_rule_count
 
 -- the total would pass the limit once the policy is put
 abbrev pub total_over : ℕ → Total → List PolicyData → PolicyData → Option ClusterRefusal
 total_over limit which policies p = over limit (total (counted which) (put (at_policy p.key) p policies))
-
-abbrev pub peers_of : Rule → List Peer
-peers_of r = option_map_or (λ (peers : List Peer). peers) r.peers []
-
--- services and named ports together
-abbrev pub port_count : Rule → ℕ
-port_count r = option_map_or (λ (services : List PortRange). length services) r.services 0 + length r.named
-
-abbrev pub except_count : Peer → ℕ
-except_count (peer.Block b) = length b.excepts
-except_count _ = 0
 
 -- some block of the rule has more excepts than the limit
 abbrev pub excepts_over : Rule → Bool

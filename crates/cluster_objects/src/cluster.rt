@@ -1,12 +1,10 @@
 ghost use Rattle.std.specs.Prelude.{◌≡◌, ◌≤◌, ◌&&◌, IfOk, option_copied, find, length, vec_capacity};
-ghost use Rattle.cluster_objects.specs.Tier.{static_tiers, tier_of};
+ghost use Rattle.cluster_types.specs.Tier.{static_tiers, tier_of};
 
-use crate::egress::EgressObj;
 use crate::kinds::copied;
-use crate::node::{Namespace, NodeInfo};
-use crate::pod::{Pod, counting_pod_at};
-use crate::policy::{Policy, Tier};
+use crate::pods::Pods;
 use cl_types::{Addr, NoMemory, Text};
+use cluster_types::{BASELINE_TIER, EgressObj, Namespace, NodeInfo, Pod, Policy, Tier};
 use label_select::{GroupKey, Scope, Selector};
 use std::alloc::Global;
 use std::marker::Model;
@@ -21,7 +19,7 @@ pub struct Cluster {
     nodes: Vec<NodeInfo>,
     fixed: bool,
     namespaces: Vec<Namespace>,
-    pods: Vec<Pod>,
+    pods: Pods,
     tiers: Vec<Tier>,
     policies: Vec<Policy>,
     egresses: Vec<EgressObj>,
@@ -29,13 +27,13 @@ pub struct Cluster {
 
 impl Model for Cluster {
     ghost use Rattle.std.specs.Prelude.{vec_capacity};
-    ghost use Rattle.cluster_objects.specs.Cluster.{ClusterState, IsState};
+    ghost use Rattle.cluster_types.specs.Cluster.{ClusterState, IsState};
 
     ghost Value = { ClusterState };
 
-    ghost view = { λ c. record { cluster = record { nodes = c.nodes.items; fixed = c.fixed; namespaces = c.namespaces.items; pods = c.pods.items; tiers = c.tiers.items; policies = c.policies.items; egresses = c.egresses.items }; places = record { nodes = vec_capacity c.nodes; namespaces = vec_capacity c.namespaces; pods = vec_capacity c.pods; tiers = vec_capacity c.tiers; policies = vec_capacity c.policies; egresses = vec_capacity c.egresses } } };
+    ghost view = { λ c. record { cluster = record { nodes = c.nodes.items; fixed = c.fixed; namespaces = c.namespaces.items; pods = c.pods.pods; tiers = c.tiers.items; policies = c.policies.items; egresses = c.egresses.items }; places = record { nodes = vec_capacity c.nodes; namespaces = vec_capacity c.namespaces; pods = c.pods.places; tiers = vec_capacity c.tiers; policies = vec_capacity c.policies; egresses = vec_capacity c.egresses } } };
 
-    ghost invariant = { λ c. IsState (record { cluster = record { nodes = c.nodes.items; fixed = c.fixed; namespaces = c.namespaces.items; pods = c.pods.items; tiers = c.tiers.items; policies = c.policies.items; egresses = c.egresses.items }; places = record { nodes = vec_capacity c.nodes; namespaces = vec_capacity c.namespaces; pods = vec_capacity c.pods; tiers = vec_capacity c.tiers; policies = vec_capacity c.policies; egresses = vec_capacity c.egresses } }) };
+    ghost invariant = { λ c. IsState (record { cluster = record { nodes = c.nodes.items; fixed = c.fixed; namespaces = c.namespaces.items; pods = c.pods.pods; tiers = c.tiers.items; policies = c.policies.items; egresses = c.egresses.items }; places = record { nodes = vec_capacity c.nodes; namespaces = vec_capacity c.namespaces; pods = c.pods.places; tiers = vec_capacity c.tiers; policies = vec_capacity c.policies; egresses = vec_capacity c.egresses } }) };
 }
 
 /// The key of the label that every namespace has, with its name (Kubernetes).
@@ -52,7 +50,7 @@ fn static_tiers(alloc: Global) -> Result<Vec<Tier>, NoMemory>
     tiers.push(tier(alloc, b"networkops", 150)?)?;
     tiers.push(tier(alloc, b"platform", 200)?)?;
     tiers.push(tier(alloc, b"application", 250)?)?;
-    tiers.push(tier(alloc, b"baseline", 253)?)?;
+    tiers.push(tier(alloc, b"baseline", BASELINE_TIER)?)?;
     Ok(tiers)
 }
 
@@ -66,9 +64,10 @@ fn tier(alloc: Global, name: &[u8], priority: u16) -> Result<Tier, NoMemory>
 }
 
 impl Cluster {
-    ghost use Rattle.cluster_objects.specs.Cluster.{no_objects};
-    ghost use Rattle.cluster_objects.specs.Groups.{in_group, ns_labels};
-    ghost use Rattle.cluster_objects.specs.Pod.{counts, has_address};
+    ghost use Rattle.cluster_objects.specs.Addresses.{pod_at, IsOnlyPodAt};
+    ghost use Rattle.cluster_types.specs.Cluster.{no_objects, IsState};
+    ghost use Rattle.cluster_types.specs.Groups.{in_group, ns_labels};
+    ghost use Rattle.cluster_types.specs.Pod.{counts, has_address};
     ghost use Rattle.label_select.specs.Selection.{selects};
 
     /// The static tiers and nothing else, with the nodes not fixed.
@@ -79,7 +78,7 @@ impl Cluster {
             nodes: Vec::new(alloc),
             fixed: false,
             namespaces: Vec::new(alloc),
-            pods: Vec::new(alloc),
+            pods: Pods::new(alloc),
             tiers: static_tiers(alloc)?,
             policies: Vec::new(alloc),
             egresses: Vec::new(alloc),
@@ -95,11 +94,18 @@ impl Cluster {
             nodes: copied(alloc, self.nodes.as_slice())?,
             fixed: self.fixed,
             namespaces: copied(alloc, self.namespaces.as_slice())?,
-            pods: copied(alloc, self.pods.as_slice())?,
+            pods: self.pods.copy(alloc)?,
             tiers: copied(alloc, self.tiers.as_slice())?,
             policies: copied(alloc, self.policies.as_slice())?,
             egresses: copied(alloc, self.egresses.as_slice())?,
         })
+    }
+
+    /// Tells what every cluster keeps of this one. It does nothing else.
+    pub fn keeps_its_form(&self)
+        ensures { IsState self.now }
+    {
+        let _ = &self.fixed;
     }
 
     /// The nodes, by name.
@@ -146,9 +152,10 @@ impl Cluster {
 
     /// The counting pod that has the address.
     pub fn pod_at(&self, a: Addr) -> Option<&Pod>
-        ensures { option_copied result ≡ find (λ p. counts p && has_address a p) self.now.cluster.pods }
+        ensures pod { option_copied result ≡ pod_at self.now.cluster.pods a }
+        ensures alone { IsOnlyPodAt self.now.cluster.pods a (option_copied result) }
     {
-        counting_pod_at(self.pods.as_slice(), a)
+        self.pods.at(a)
     }
 
     /// Whether the group contains the pod.

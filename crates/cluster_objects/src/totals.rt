@@ -3,11 +3,11 @@ ghost use Rattle.std.specs.Prelude.{◌≡◌, nat_lt};
 ghost use Rattle.cl_types.specs.Ascending.{Ascends, put};
 ghost use Rattle.cl_types.specs.RuleOrder.{policy_order};
 ghost use Rattle.cluster_objects.specs.Apply.{at_policy};
-ghost use Rattle.cluster_objects.specs.Refusals.{counted, same_kind, total};
+ghost use Rattle.cluster_objects.specs.Refusals.{counted};
+ghost use Rattle.cluster_types.specs.Counts.{same_kind, total};
 
-use crate::policy::Policy;
-use crate::steps::is_kube;
 use cl_types::PolicyKind;
+use cluster_types::{Policy, is_kube};
 
 /// What is counted over all policies.
 #[derive(Clone, Copy, Debug)]

@@ -9,6 +9,3 @@ mod words;
 
 pub use control::{Control, ControlLine, NodeOrder};
 pub use reading::read_control;
-
-#[cfg(test)]
-mod tests;

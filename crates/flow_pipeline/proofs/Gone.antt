@@ -3,14 +3,14 @@ use Rattle.std.proofs.Common.{◌≡◌, ◌||◌, List, [], ◌∷◌, ◌++◌
 use Rattle.std.proofs.lemmas.List.{drop_all, take_all, append-nil}
 use Rattle.std.proofs.lemmas.List.Sums.{fold_more}
 use Rattle.cl_types.specs.declared.question.Packet.{Packet}
-use Rattle.flow_pipeline.specs.Lookup.{lookup}
-use Rattle.flow_pipeline.specs.declared.table.Table.TheVariants.{SpoofGuard}
+use Rattle.flow_tables.specs.Lookup.{lookup}
+use Rattle.flow_entries.specs.declared.table.Table.TheVariants.{SpoofGuard}
 use Rattle.std.specs.List.{fold, last_or}
 use Rattle.std.specs.Option.{option_or, option_map_or}
 use Rattle.cl_types.specs.declared.keys.Dir.{Dir}
 use Rattle.cl_types.specs.declared.keys.Dir.TheVariants.{Ingress, Egress}
-use Rattle.flow_pipeline.specs.declared.flow.Flow.{Flow}
-use Rattle.flow_pipeline.specs.declared.table.Table.{Table}
+use Rattle.flow_entries.specs.declared.flow.Flow.{Flow}
+use Rattle.flow_entries.specs.declared.table.Table.{Table}
 use Rattle.flow_pipeline.specs.Walk.{Visited, visits, visit, leads_to, next_table, sets_skip, answer_of_side, first_answer, met_rules, side_said, keeps, kept_by, end_by, end_of, way_by, all_tables, all_visits, walk}
 use Rattle.flow_pipeline.specs.Way.{Ending, no_port}
 use Rattle.flow_pipeline.specs.Course.{Heard, Course, start, nothing_heard, heard, passed, passed_by, stepped, seen_at, said, concluded, run}

@@ -1,11 +1,4 @@
-pub mod Best
-pub mod Classes
-pub mod Clauses
 pub mod Gone
-pub mod Hits
-pub mod Joined
-pub mod Placed
-pub mod Searching
 pub mod Tuples
 pub mod VisitLaws
 pub mod WayLaws

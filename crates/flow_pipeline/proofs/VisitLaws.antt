@@ -7,11 +7,11 @@ use Rattle.std.specs.Ordering.{nat_cmp}
 use Rattle.std.specs.declared.cmp.Ordering.TheVariants.{Less}
 use Rattle.cl_types.specs.Ascending.{Ascends}
 use Rattle.cl_types.specs.declared.question.Packet.{Packet}
-use Rattle.flow_pipeline.specs.declared.flow.Flow.{Flow}
-use Rattle.flow_pipeline.specs.declared.table.Table.{Table}
-use Rattle.flow_pipeline.specs.declared.table.Table.TheVariants.{SpoofGuard}
-use Rattle.flow_pipeline.specs.Lookup.{lookup}
-use Rattle.flow_pipeline.specs.Table.{table_place}
+use Rattle.flow_entries.specs.declared.flow.Flow.{Flow}
+use Rattle.flow_entries.specs.declared.table.Table.{Table}
+use Rattle.flow_entries.specs.declared.table.Table.TheVariants.{SpoofGuard}
+use Rattle.flow_tables.specs.Lookup.{lookup}
+use Rattle.flow_entries.specs.Table.{table_place}
 use Rattle.flow_pipeline.specs.Walk.{visits, visit, leads_to, next_table, sets_skip, all_tables, all_visits}
 
 -- the tables stand at rising places, of which the first is no less than n

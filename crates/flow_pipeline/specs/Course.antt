@@ -4,9 +4,9 @@ use Rattle.std.specs.Option.{option_or}
 use Rattle.cl_types.specs.declared.keys.Dir.{Dir}
 use Rattle.cl_types.specs.declared.keys.Dir.TheVariants.{Ingress, Egress}
 use Rattle.cl_types.specs.Judgement.{Judgement}
-use Rattle.flow_pipeline.specs.declared.flow.Flow.{Flow}
-use Rattle.flow_pipeline.specs.declared.table.Table.{Table}
-use Rattle.flow_pipeline.specs.declared.table.Table.TheVariants.{SpoofGuard}
+use Rattle.flow_entries.specs.declared.flow.Flow.{Flow}
+use Rattle.flow_entries.specs.declared.table.Table.{Table}
+use Rattle.flow_entries.specs.declared.table.Table.TheVariants.{SpoofGuard}
 use Rattle.flow_pipeline.specs.Walk.{Visited, visit, next_table, sets_skip, leads_to, answer_of_side, is_rule_table, by_default_if, keeps, end_by}
 use Rattle.flow_pipeline.specs.Way.{Ending, no_port, WayData}
 

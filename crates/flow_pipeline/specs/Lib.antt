@@ -1,15 +1,7 @@
-pub mod Class
 pub mod ConnectionIndex
 pub mod Connections
 pub mod Course
 pub mod CourseViews
-pub mod Index
-pub mod Listing
-pub mod Lookup
-pub mod Matching
-pub mod Order
-pub mod Search
-pub mod Table
 pub mod TupleLaws
 pub mod Views
 pub mod Walk

@@ -13,13 +13,13 @@ use Rattle.cl_types.specs.declared.verdict.Verdict.{Verdict}
 use Rattle.cl_types.specs.declared.verdict.Verdict.TheVariants as verdict
 use Rattle.cl_types.specs.Dir.{dir_eq}
 use Rattle.cl_types.specs.Judgement.{Judgement, by_rule, by_isolation, by_default}
-use Rattle.flow_pipeline.specs.declared.flow.Does.{Does}
-use Rattle.flow_pipeline.specs.declared.flow.Does.TheVariants as does
-use Rattle.flow_pipeline.specs.declared.flow.Flow.{Flow}
-use Rattle.flow_pipeline.specs.declared.table.Table.{Table}
-use Rattle.flow_pipeline.specs.declared.table.Table.TheVariants as table
-use Rattle.flow_pipeline.specs.Lookup.{lookup}
-use Rattle.flow_pipeline.specs.Table.{table_place, table_eq}
+use Rattle.flow_entries.specs.declared.flow.Does.{Does}
+use Rattle.flow_entries.specs.declared.flow.Does.TheVariants as does
+use Rattle.flow_entries.specs.declared.flow.Flow.{Flow}
+use Rattle.flow_entries.specs.declared.table.Table.{Table}
+use Rattle.flow_entries.specs.declared.table.Table.TheVariants as table
+use Rattle.flow_tables.specs.Lookup.{lookup}
+use Rattle.flow_entries.specs.Table.{table_place, table_eq}
 use Rattle.flow_pipeline.specs.Way.{Ending, spoofed, no_port, stopped, delivered, tunnelled, leaves, plain, here, there, WayData, gateway_port}
 
 -- a table that a packet passed, and the flow that it hit there

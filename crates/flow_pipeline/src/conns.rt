@@ -295,6 +295,3 @@ impl Clone for Conns {
 impl Copies for Conns {
     ghost exact = { λ x y h. h };
 }
-
-#[cfg(test)]
-mod tests;

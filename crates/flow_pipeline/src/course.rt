@@ -7,10 +7,9 @@ ghost use Rattle.flow_pipeline.specs.Views.{ending_of, visited, way_of};
 ghost use Rattle.flow_pipeline.specs.Course.{start, heard, passed, passed_by, said, concluded};
 ghost use Rattle.flow_pipeline.specs.CourseViews.{heard_of, course_of};
 
-use crate::flow::{Does, Flow};
-use crate::table::Table;
 use crate::way::{Choice3, End, Visit, Way};
 use cl_types::{Action, Cause, Dir, Judged, RuleKey, Verdict};
+use flow_entries::{Does, Flow, Table};
 
 /// The port of the gateway.
 const GATEWAY_PORT: u16 = 2;

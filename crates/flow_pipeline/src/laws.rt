@@ -7,8 +7,8 @@ ghost use Rattle.cl_types.specs.Judgement.{Judgement};
 ghost use Rattle.cl_types.specs.declared.addr.Addr.{Addr};
 ghost use Rattle.cl_types.specs.declared.question.Packet.{Packet};
 ghost use Rattle.cl_types.specs.declared.question.Question.{Question};
-ghost use Rattle.flow_pipeline.specs.declared.flow.Flow.{Flow};
-ghost use Rattle.flow_pipeline.specs.Table.{table_place};
+ghost use Rattle.flow_entries.specs.declared.flow.Flow.{Flow};
+ghost use Rattle.flow_entries.specs.Table.{table_place};
 ghost use Rattle.flow_pipeline.specs.Walk.{all_visits};
 ghost use Rattle.flow_pipeline.specs.Way.{Choice, NodeFacts, IsStoppedByItsSide, way};
 

@@ -2,17 +2,17 @@ ghost use Rattle.std.specs.Prelude.{◌≡◌, ◌++◌, map, IfOk, OnOk};
 ghost use Rattle.flow_pipeline.specs.Connections.{is_known, note};
 ghost use Rattle.flow_pipeline.specs.Course.{stepped, seen_at};
 ghost use Rattle.flow_pipeline.specs.CourseViews.{course_of};
-ghost use Rattle.flow_pipeline.specs.Lookup.{lookup};
+ghost use Rattle.flow_tables.specs.Lookup.{lookup};
 ghost use Rattle.flow_pipeline.specs.Views.{way_of, visited};
 ghost use Rattle.flow_pipeline.specs.Way.{goes_through};
 ghost use Rattle.flow_pipeline.specs.Walk.{walk, all_visits};
 
 use crate::conns::Conns;
 use crate::course::Course;
-use crate::table::Table;
-use crate::tables::Tables;
 use crate::way::{Visit, Way};
 use cl_types::{List, NoMemory, Packet};
+use flow_entries::Table;
+use flow_tables::Tables;
 use std::alloc::Global;
 
 /// All tables, in the order in which packets pass them.
@@ -114,6 +114,3 @@ pub fn route_seen<'t>(
     }
     Ok((course.concluded(), List::of(seen)))
 }
-
-#[cfg(test)]
-mod tests;

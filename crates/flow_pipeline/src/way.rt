@@ -1,6 +1,5 @@
-use crate::flow::Flow;
-use crate::table::Table;
 use cl_types::{Addr, Dir, Judged, Text};
+use flow_entries::{Flow, Table};
 
 /// By which address a packet leaves the cluster.
 #[derive(Clone, Copy, Debug)]

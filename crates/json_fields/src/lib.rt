@@ -28,6 +28,3 @@ pub use shapes::{
     text_or_empty, truth_field_fault, truth_in,
 };
 pub use unknown::{other_fault, other_field, unsupported};
-
-#[cfg(test)]
-mod tests;

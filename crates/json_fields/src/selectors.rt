@@ -6,7 +6,7 @@ ghost use Rattle.label_select.specs.Forms.{is_label_key, is_label_value};
 ghost use Rattle.json_fields.specs.Faults.{least};
 ghost use Rattle.json_fields.specs.Fields.{inner};
 ghost use Rattle.json_fields.specs.Shapes.{in_field, items_of};
-ghost use Rattle.json_fields.specs.Selectors.{operator_of, key_faults, has_count, operator_faults, value_faults, expression_faults, element_text, need_from, expression_need, label_need, match_labels_faults, match_expressions_faults, selector_faults, label_needs, expression_needs, selector_value};
+ghost use Rattle.json_fields.specs.Selectors.{operator_of, key_faults, has_count, operator_text_faults, operator_faults, value_faults, expression_faults, element_text, need_from, expression_need, label_need, match_labels_faults, match_expressions_faults, selector_faults, label_needs, expression_needs, selector_value};
 
 use crate::faults::{bad_shape, earlier, in_field};
 use crate::fields::{field, inner};
@@ -67,6 +67,17 @@ fn key_fault(alloc: Global, value: Option<&Value>) -> Option<ReadRefusal>
     }
 }
 
+// The fault of the text of an operator, beside so many values.
+#[tactic(auto, unfolding(crate::specs::Faults::least, crate::specs::Faults::earlier))]
+fn operator_text_fault(count: usize, text: &str) -> Option<ReadRefusal>
+    ensures { result ≡ least (operator_text_faults count (Some text.now)) }
+{
+    match operator_of(text.as_bytes()) {
+        Some(op) if has_count(op, count) => None,
+        _ => Some(ReadRefusal::BadSelector),
+    }
+}
+
 // The fault of an operator, which must be there, beside so many values.
 #[tactic(auto, unfolding(crate::specs::Selectors::operator_faults, crate::specs::Faults::least, crate::specs::Faults::earlier))]
 fn operator_fault(alloc: Global, count: usize, value: Option<&Value>) -> Option<ReadRefusal>
@@ -76,16 +87,7 @@ fn operator_fault(alloc: Global, count: usize, value: Option<&Value>) -> Option<
         return Some(bad_shape(alloc));
     };
     match value.as_str() {
-        Some(text) => match operator_of(text.as_bytes()) {
-            Some(op) => {
-                if has_count(op, count) {
-                    None
-                } else {
-                    Some(ReadRefusal::BadSelector)
-                }
-            }
-            None => Some(ReadRefusal::BadSelector),
-        },
+        Some(text) => operator_text_fault(count, text),
         None => Some(bad_shape(alloc)),
     }
 }

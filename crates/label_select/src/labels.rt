@@ -1,6 +1,9 @@
 ghost use Rattle.std.proofs.Common.{rules};
 ghost use Rattle.std.proofs.lemmas.Grind.{common_steps};
 ghost use Rattle.std.specs.Prelude.{◌≡◌, ◌≢◌, ℕ, List as Items, [], OnOk, OnErr, option_copied};
+ghost use Rattle.cl_types.specs.Ascending.{Ascends};
+ghost use Rattle.cl_types.specs.Text.{text_order};
+ghost use Rattle.label_select.specs.declared.labels.Label.{Label};
 
 use cl_types::{Copies, Keyed, List, NoMemory, Same, Text};
 use std::alloc::Global;
@@ -91,4 +94,11 @@ impl Same for Labels {
     fn same(&self, other: &Labels) -> bool {
         self.labels.same(&other.labels)
     }
+}
+
+/// What labels keep: they ascend by their keys. It does nothing.
+pub fn labels_form(labels: &Labels)
+    ensures { Ascends (λ (l : Label). l.key) text_order labels.now }
+{
+    let _labels = &labels.labels;
 }

@@ -15,9 +15,9 @@ pub use forms::{
     names_have_no_slash,
 };
 pub use group::{GroupKey, Scope};
-pub use labels::{Label, Labels};
+pub use labels::{Label, Labels, labels_form};
 pub use selector::{Need, Op, Selector};
-pub use written::{group_texts_differ, write_group};
+pub use written::{group_form, group_texts_differ, write_group};
 
 #[cfg(test)]
 mod tests;

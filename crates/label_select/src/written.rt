@@ -90,8 +90,8 @@ pub fn write_group(out: &mut Text, g: &GroupKey) -> Result<(), NoMemory>
     g.write(out)
 }
 
-// What the parts of a group keep.
-fn group_form(g: &GroupKey)
+/// What the parts of a group keep. It does nothing.
+pub fn group_form(g: &GroupKey)
     ensures { IsGroup g.now }
 {
     scope_form(&g.scope);

@@ -1,3 +1,2 @@
 pub mod NodeBlocks
-pub mod PodAddresses
 pub mod ReadTexts

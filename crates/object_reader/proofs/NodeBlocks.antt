@@ -2,7 +2,7 @@
 use Rattle.std.proofs.Common.{◌≡◌, ℕ, ◌≤◌, true, false}
 use Rattle.cl_types.specs.declared.addr.Addr.{Addr}
 use Rattle.cl_types.specs.declared.addr.Addr.TheVariants.{V4, V6}
-use Rattle.cluster_objects.specs.Node.{IsNodeBlock, IsNodeBlock6}
+use Rattle.cluster_types.specs.Node.{IsNodeBlock, IsNodeBlock6}
 use Rattle.object_reader.specs.Texts.{is_four}
 
 pub four_is_kept : (a : Addr) (len : ℕ) → is_four a ≡ true → 8 ≤ len → len ≤ 30 → IsNodeBlock a len

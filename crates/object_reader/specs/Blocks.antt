@@ -5,7 +5,7 @@ use Rattle.serde_json.specs.Data.{Data}
 use Rattle.cl_types.specs.declared.addr.Addr.TheVariants.{V4}
 use Rattle.cl_types.specs.Prefix.{PrefixData, holds}
 use Rattle.cl_types.specs.ReadText.{read_block}
-use Rattle.cluster_objects.specs.declared.policy.Block.{Block}
+use Rattle.cluster_types.specs.declared.policy.Block.{Block}
 use Rattle.json_fields.specs.declared.refusal.ReadRefusal.{ReadRefusal}
 use Rattle.json_fields.specs.declared.refusal.ReadRefusal.TheVariants.{BadPrefix}
 use Rattle.json_fields.specs.Fields.{inner}

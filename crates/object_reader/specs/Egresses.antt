@@ -4,12 +4,12 @@ use Rattle.std.specs.Option.{option_map_or}
 use Rattle.serde_json.specs.Data.{Data}
 use Rattle.cl_types.specs.declared.addr.Addr.{Addr}
 use Rattle.cl_types.specs.declared.addr.Addr.TheVariants.{V4}
-use Rattle.cluster_objects.specs.declared.change.Change.TheVariants.{Put}
-use Rattle.cluster_objects.specs.declared.change.Object.TheVariants.{Egress}
-use Rattle.cluster_objects.specs.declared.references.PooledEgress.{PooledEgress}
-use Rattle.cluster_objects.specs.declared.references.RefItem.{RefItem}
-use Rattle.cluster_objects.specs.declared.references.RefItem.TheVariants.{Plain, PutPooled}
-use Rattle.cluster_objects.specs.Egress.{EgressData}
+use Rattle.cluster_types.specs.declared.change.Change.TheVariants.{Put}
+use Rattle.cluster_types.specs.declared.change.Object.TheVariants.{Egress}
+use Rattle.cluster_types.specs.declared.references.PooledEgress.{PooledEgress}
+use Rattle.cluster_types.specs.declared.references.RefItem.{RefItem}
+use Rattle.cluster_types.specs.declared.references.RefItem.TheVariants.{Plain, PutPooled}
+use Rattle.cluster_types.specs.Egress.{EgressData}
 use Rattle.json_fields.specs.declared.refusal.ReadRefusal.{ReadRefusal}
 use Rattle.json_fields.specs.declared.refusal.ReadRefusal.TheVariants.{BadShape, BadAddr}
 use Rattle.json_fields.specs.Fields.{inner}

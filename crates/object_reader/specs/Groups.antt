@@ -1,10 +1,10 @@
 -- Groups of pods by two selectors (Antrea: appliedTo and peers; Kubernetes: peers), and cluster groups.
 use Rattle.std.specs.Prelude.{ℕ, List, [], ◌∷◌, ◌++◌, map, Bool, true, false, ◌||◌, Option, Some, is_some, codes, if◌then◌else◌}
 use Rattle.serde_json.specs.Data.{Data}
-use Rattle.cluster_objects.specs.declared.policy.Block.{Block}
-use Rattle.cluster_objects.specs.declared.references.ClusterGroup.{ClusterGroup}
-use Rattle.cluster_objects.specs.declared.references.GroupBody.{GroupBody}
-use Rattle.cluster_objects.specs.declared.references.GroupBody.TheVariants.{Selected, Blocks, Children}
+use Rattle.cluster_types.specs.declared.policy.Block.{Block}
+use Rattle.cluster_types.specs.declared.references.ClusterGroup.{ClusterGroup}
+use Rattle.cluster_types.specs.declared.references.GroupBody.{GroupBody}
+use Rattle.cluster_types.specs.declared.references.GroupBody.TheVariants.{Selected, Blocks, Children}
 use Rattle.label_select.specs.declared.group.Scope.TheVariants.{Namespaces}
 use Rattle.label_select.specs.Group.{Group}
 use Rattle.label_select.specs.Selection.{Selection}

@@ -2,7 +2,6 @@ pub mod Blocks
 pub mod Egresses
 pub mod Groups
 pub mod Nodes
-pub mod Pods
 pub mod Pools
 pub mod Texts
 pub mod Tiers

@@ -4,7 +4,7 @@ use Rattle.serde_json.specs.Data.{Data}
 use Rattle.cl_types.specs.declared.addr.Addr.TheVariants.{V4}
 use Rattle.cl_types.specs.Prefix.{PrefixData}
 use Rattle.cl_types.specs.ReadText.{read_block}
-use Rattle.cluster_objects.specs.Node.{NodeData, NamespaceData}
+use Rattle.cluster_types.specs.Node.{NodeData, NamespaceData}
 use Rattle.json_fields.specs.declared.metadata.NameForm.TheVariants.{ObjectName, NamespaceName}
 use Rattle.json_fields.specs.declared.refusal.ReadRefusal.{ReadRefusal}
 use Rattle.json_fields.specs.declared.refusal.ReadRefusal.TheVariants.{BadShape, BadPrefix}

@@ -4,8 +4,8 @@ use Rattle.serde_json.specs.Data.{Data}
 use Rattle.cl_types.specs.declared.addr.Addr.{Addr}
 use Rattle.cl_types.specs.declared.addr.Addr.TheVariants.{V4, V6}
 use Rattle.cl_types.specs.Prefix.{PrefixData}
-use Rattle.cluster_objects.specs.declared.references.Pool.{Pool}
-use Rattle.cluster_objects.specs.declared.references.Range.{Range}
+use Rattle.cluster_types.specs.declared.references.Pool.{Pool}
+use Rattle.cluster_types.specs.declared.references.Range.{Range}
 use Rattle.json_fields.specs.declared.refusal.ReadRefusal.{ReadRefusal}
 use Rattle.json_fields.specs.declared.refusal.ReadRefusal.TheVariants.{BadShape, BadAddr, BadPrefix}
 use Rattle.json_fields.specs.Fields.{inner, elements, is_object}

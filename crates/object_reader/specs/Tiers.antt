@@ -1,7 +1,7 @@
 -- Tiers of Antrea's policies.
 use Rattle.std.specs.Prelude.{ℕ, List, ◌++◌, Option, Some, is_some, unwrap_or, codes}
 use Rattle.serde_json.specs.Data.{Data}
-use Rattle.cluster_objects.specs.Tier.{TierData}
+use Rattle.cluster_types.specs.Tier.{TierData}
 use Rattle.json_fields.specs.declared.refusal.ReadRefusal.{ReadRefusal}
 use Rattle.json_fields.specs.declared.refusal.ReadRefusal.TheVariants.{BadPriority}
 use Rattle.json_fields.specs.Fields.{inner}

@@ -12,7 +12,7 @@ ghost use Rattle.object_reader.specs.Blocks.{is_within, is_except, are_excepts, 
 
 use crate::texts::read_block;
 use cl_types::{Addr, List, NoMemory, Prefix, Text};
-use cluster_objects::Block;
+use cluster_types::Block;
 use json_fields::{
     ElementText, ReadRefusal, earlier, inner, list_field_fault, object_fault, other_fault,
     required_text_fault, text_or_empty, texts_in,

@@ -13,7 +13,7 @@ use crate::groups::{cluster_group, has_selector, selectors_fault};
 use crate::nodes::{name_of, named_fault, spec_of};
 use crate::texts::{four_of, has_colon};
 use cl_types::{Addr, NoMemory, Text};
-use cluster_objects::{Change, EgressObj, Object, PooledEgress, RefItem};
+use cluster_types::{Change, EgressObj, Object, PooledEgress, RefItem};
 use json_fields::{
     ReadRefusal, bad_shape, earlier, in_field, inner, object_fault, text_copy, text_field_fault,
     text_in, text_or_empty, unsupported,

@@ -8,7 +8,7 @@ ghost use Rattle.object_reader.specs.Groups.{pod_selector_faults, namespace_sele
 use crate::blocks::{block_fault, block_value};
 use crate::nodes::{name_of, named_fault, spec_of};
 use cl_types::{List, NoMemory, Text};
-use cluster_objects::{Block, ClusterGroup, GroupBody};
+use cluster_types::{Block, ClusterGroup, GroupBody};
 use json_fields::{
     ElementText, ReadRefusal, Reading, bad_shape, earlier, in_field, inner, list_field_fault,
     list_value, object_fault, other_field, selector_field_fault, selector_value, unsupported,

@@ -1,11 +1,11 @@
-//! Reading the objects that aren't policies: nodes, namespaces, pods, tiers, Egresses, cluster groups and pools.
+//! Reading the objects that are neither pods nor policies: nodes, namespaces, tiers, Egresses, cluster groups and pools;
+//! and what pods and policies have in common with them.
 #![tactic(auto)]
 
 mod blocks;
 mod egresses;
 mod groups;
 mod nodes;
-mod pods;
 mod pools;
 mod texts;
 mod tiers;
@@ -17,12 +17,9 @@ pub use groups::{
     namespace_selector, pod_selector, selectors_fault,
 };
 pub use nodes::{
-    name_of, namespace_fault, namespace_name, namespace_value, node_fault, node_value,
+    metadata_of, name_of, namespace_fault, namespace_name, namespace_value, node_fault, node_value,
+    spec_of,
 };
-pub use pods::{pod_fault, pod_key, pod_value};
 pub use pools::{pool_fault, pool_value};
 pub use texts::{four_of, has_colon, read_address, read_block, six_of};
 pub use tiers::{tier_fault, tier_value};
-
-#[cfg(test)]
-mod tests;

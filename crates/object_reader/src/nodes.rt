@@ -2,7 +2,7 @@
 ghost use Rattle.std.specs.Prelude.{◌≡◌, ◌++◌, List, IfOk, IfSome, map, option_map, option_copied, option_to_list, find, codes};
 ghost use Rattle.std.specs.Option.{ForSome};
 ghost use Rattle.serde_json.specs.View.{view};
-ghost use Rattle.cluster_objects.specs.Node.{IsNodeBlock, IsNodeBlock6};
+ghost use Rattle.cluster_types.specs.Node.{IsNodeBlock, IsNodeBlock6};
 ghost use Rattle.json_fields.specs.Faults.{least};
 ghost use Rattle.json_fields.specs.Shapes.{in_field};
 ghost use Rattle.object_reader.specs.Texts.{has_colon, has_no_colon};
@@ -10,7 +10,7 @@ ghost use Rattle.object_reader.specs.Nodes.{metadata_of, spec_of, named_faults, 
 
 use crate::texts::{has_colon, is_four, read_block};
 use cl_types::{Addr, NoMemory, Prefix, Text};
-use cluster_objects::{Namespace, NodeInfo};
+use cluster_types::{Namespace, NodeInfo};
 use json_fields::{
     ElementText, NameForm, ReadRefusal, earlier, field, in_field, inner, labels_value,
     list_field_fault, metadata_fault, name_value, object_fault, text_field_fault, text_in,
@@ -21,15 +21,17 @@ use std::alloc::Global;
 
 // ---- what every object has
 
+/// The metadata of an object.
 #[tactic(auto, unfolding(crate::specs::Nodes::metadata_of, json_fields::specs::Fields::inner))]
-pub(crate) fn metadata_of(object: &Value) -> Option<&Value>
+pub fn metadata_of(object: &Value) -> Option<&Value>
     ensures { option_map (λ v. view v.now) result ≡ metadata_of (view object.now) }
 {
     field(object, "metadata")
 }
 
+/// The spec of an object.
 #[tactic(auto, unfolding(crate::specs::Nodes::spec_of, json_fields::specs::Fields::inner))]
-pub(crate) fn spec_of(object: &Value) -> Option<&Value>
+pub fn spec_of(object: &Value) -> Option<&Value>
     ensures { option_map (λ v. view v.now) result ≡ spec_of (view object.now) }
 {
     field(object, "spec")

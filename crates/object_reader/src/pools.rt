@@ -12,7 +12,7 @@ ghost use Rattle.object_reader.specs.Pools.{six_faults, ranges_in, is_block_rang
 use crate::nodes::{name_of, named_fault, spec_of};
 use crate::texts::{four_of, has_colon, read_block};
 use cl_types::{Addr, List, NoMemory, Prefix};
-use cluster_objects::{Pool, Range};
+use cluster_types::{Pool, Range};
 use json_fields::{
     ReadRefusal, Reading, bad_shape, earlier, elements, elements_fault, in_field, inner,
     list_value, object_fault, other_field, text_field_fault, text_in, unsupported,

@@ -8,7 +8,7 @@ ghost use Rattle.object_reader.specs.Tiers.{tier_priority, tier_spec_faults, tie
 
 use crate::nodes::{name_of, named_fault, spec_of};
 use cl_types::NoMemory;
-use cluster_objects::Tier;
+use cluster_types::Tier;
 use json_fields::{ReadRefusal, earlier, in_field, inner, number_within, object_fault};
 use serde_json::Value;
 use std::alloc::Global;

@@ -1,6 +1,7 @@
 //! The plain evaluator: the policies' verdict, found by looking at every rule.
 #![tactic(auto)]
 
+mod asked;
 mod peers;
 mod rules;
 mod services;

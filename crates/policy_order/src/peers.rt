@@ -1,11 +1,12 @@
 ghost use Rattle.std.specs.Prelude.{◌≡◌, ◌↔◌, ◌&&◌, IsTrue};
 ghost use Rattle.std.specs.List.{list_any};
-ghost use Rattle.cluster_objects.specs.Evaluation.{block_contains, group_contains, peer_contains, peers_contain, peer_contains_pod, peers_contain_pod};
-ghost use Rattle.cluster_objects.specs.Pod.{has_address};
-ghost use Rattle.cluster_objects.specs.Groups.{in_group};
-ghost use Rattle.cluster_objects.specs.Pod.{counts};
+ghost use Rattle.cluster_types.specs.Evaluation.{block_contains, group_contains, peer_contains, peers_contain, peer_contains_pod, peers_contain_pod};
+ghost use Rattle.cluster_types.specs.Pod.{has_address};
+ghost use Rattle.cluster_types.specs.Groups.{in_group};
+ghost use Rattle.cluster_types.specs.Pod.{counts};
 ghost use Rattle.cl_types.specs.Prefix.{holds};
 
+use crate::asked::Asked;
 use cl_types::{Addr, List, Prefix};
 use cluster_objects::{Block, Cluster, Peer, Pod};
 use label_select::GroupKey;
@@ -22,38 +23,40 @@ fn any_block_holds(blocks: &[Prefix], a: Addr) -> bool
     blocks.iter().any(|block| block.holds(a))
 }
 
-fn group_contains(c: &Cluster, group: &GroupKey, a: Addr) -> bool
-    ensures { result ≡ group_contains c.now.cluster group.now a }
+// Whether the group contains the peer's address: the one counting pod that has it is in the group.
+fn group_contains(asked: &Asked, group: &GroupKey) -> bool
+    ensures { result ≡ group_contains asked.now.cluster.now.cluster group.now asked.now.question.now.peer }
 {
-    c.pods()
-        .iter()
-        .any(|pod| c.in_group(group, pod) && pod.has_address(a))
+    match asked.peer {
+        Some(pod) => asked.cluster.in_group(group, pod),
+        None => false,
+    }
 }
 
-fn peer_contains(c: &Cluster, a: Addr, peer: &Peer) -> bool
-    ensures { result ≡ peer_contains c.now.cluster a peer.now }
+fn peer_contains(asked: &Asked, peer: &Peer) -> bool
+    ensures { result ≡ peer_contains asked.now.cluster.now.cluster asked.now.question.now.peer peer.now }
 {
     match peer {
-        Peer::Group(group) => group_contains(c, group, a),
-        Peer::Block(block) => block_contains(block, a),
+        Peer::Group(group) => group_contains(asked, group),
+        Peer::Block(block) => block_contains(block, asked.question.peer),
         Peer::Never => false,
     }
 }
 
-/// Whether the peers of a rule contain the address.
-pub(crate) fn peers_contain(c: &Cluster, a: Addr, peers: &Option<List<Peer>>) -> bool
-    ensures { result ≡ peers_contain c.now.cluster a peers.now }
+/// Whether the peers of a rule contain the peer's address.
+pub(crate) fn peers_contain(asked: &Asked, peers: &Option<List<Peer>>) -> bool
+    ensures { result ≡ peers_contain asked.now.cluster.now.cluster asked.now.question.now.peer peers.now }
 {
     match peers {
         None => true,
-        Some(peers) => any_contains(c, a, peers.as_slice()),
+        Some(peers) => any_contains(asked, peers.as_slice()),
     }
 }
 
-fn any_contains(c: &Cluster, a: Addr, peers: &[Peer]) -> bool
-    ensures { result ≡ list_any (peer_contains c.now.cluster a) peers.now }
+fn any_contains(asked: &Asked, peers: &[Peer]) -> bool
+    ensures { result ≡ list_any (peer_contains asked.now.cluster.now.cluster asked.now.question.now.peer) peers.now }
 {
-    peers.iter().any(|peer| peer_contains(c, a, peer))
+    peers.iter().any(|peer| peer_contains(asked, peer))
 }
 
 fn peer_contains_pod(c: &Cluster, pod: &Pod, peer: &Peer) -> bool

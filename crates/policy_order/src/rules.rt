@@ -1,12 +1,13 @@
-ghost use Rattle.std.specs.Prelude.{◌≡◌, ◌++◌, ◌&&◌, List, Some, filter, option_copied};
-ghost use Rattle.cluster_objects.specs.declared.policy.Rule.{Rule};
-ghost use Rattle.cluster_objects.specs.Evaluation.{applies, rule_matches, rule_key, rules_with, is_isolated};
-ghost use Rattle.cluster_objects.specs.Steps.{in_stage, first};
-ghost use Rattle.cluster_objects.specs.Policy.{isolates};
+ghost use Rattle.std.specs.Prelude.{◌≡◌, ◌++◌, ◌&&◌, List, Some, true, filter, option_copied};
+ghost use Rattle.cluster_types.specs.declared.policy.Rule.{Rule};
+ghost use Rattle.cluster_types.specs.Evaluation.{applies, rule_matches, rule_key, rules_with, is_isolated};
+ghost use Rattle.cluster_types.specs.Steps.{in_stage, first};
+ghost use Rattle.cluster_types.specs.Policy.{isolates};
 
+use crate::asked::Asked;
 use crate::peers::peers_contain;
 use crate::services::services_match;
-use cl_types::{Dir, Question};
+use cl_types::Dir;
 use cluster_objects::{Cluster, Pod, Policy, Rule, Stage, earlier, is_kube};
 
 fn applies(c: &Cluster, policy: &Policy, pod: &Pod) -> bool
@@ -19,64 +20,71 @@ fn applies(c: &Cluster, policy: &Policy, pod: &Pod) -> bool
         .any(|group| c.in_group(group, pod))
 }
 
-fn rule_matches(c: &Cluster, policy: &Policy, rule: &Rule, pod: &Pod, q: &Question) -> bool
-    ensures { result ≡ rule_matches c.now.cluster policy.now rule.now pod.now q.now }
+// Whether the question matches a rule of a policy that applies to the pod.
+fn rule_matches(asked: &Asked, policy: &Policy, rule: &Rule) -> bool
+    requires { applies asked.now.cluster.now.cluster policy.now asked.now.pod.now ≡ true }
+    ensures { result ≡ rule_matches asked.now.cluster.now.cluster policy.now rule.now asked.now.pod.now asked.now.question.now }
 {
-    rule.key.dir.is(q.dir)
-        && applies(c, policy, pod)
-        && peers_contain(c, q.peer, &rule.peers)
-        && services_match(c, rule, pod, q)
+    rule.key.dir.is(asked.question.dir)
+        && peers_contain(asked, &rule.peers)
+        && services_match(asked, rule)
 }
 
-// The first of the policy's rules of the stage that match the question, and of those after them.
-fn first_of_policy<'c>(
-    c: &Cluster,
+fn is_wanted(asked: &Asked, policy: &Policy, rule: &Rule, stage: Stage) -> bool
+    requires { applies asked.now.cluster.now.cluster policy.now asked.now.pod.now ≡ true }
+    ensures { result ≡ (in_stage stage policy.now.key.kind rule.now.key && rule_matches asked.now.cluster.now.cluster policy.now rule.now asked.now.pod.now asked.now.question.now) }
+{
+    stage.includes(policy.key.kind, &rule.key) && rule_matches(asked, policy, rule)
+}
+
+// The first of the rules of a policy that applies, those of the stage that match the question, and of the
+// rules after them.
+fn first_of_applying<'c>(
+    asked: &Asked,
     policy: &'c Policy,
-    pod: &Pod,
-    q: &Question,
     stage: Stage,
     after: Option<&'c Rule>,
 ) -> Option<&'c Rule>
+    requires { applies asked.now.cluster.now.cluster policy.now asked.now.pod.now ≡ true }
     ensures { (later : List Rule) → option_copied after.entry ≡ first rule_key later
-        → option_copied result ≡ first rule_key (filter (λ r. in_stage stage policy.now.key.kind r.key && rule_matches c.now.cluster policy.now r pod.now q.now) policy.now.rules ++ later) }
+        → option_copied result ≡ first rule_key (filter (λ r. in_stage stage policy.now.key.kind r.key && rule_matches asked.now.cluster.now.cluster policy.now r asked.now.pod.now asked.now.question.now) policy.now.rules ++ later) }
 {
     let rules = policy.rules.as_slice();
     let mut found = after;
     for i in (0..rules.len()).rev() {
         let rule = &rules[i];
-        if is_wanted(c, policy, rule, pod, q, stage) {
+        if is_wanted(asked, policy, rule, stage) {
             found = Some(earlier(rule, found));
         }
     }
     found
 }
 
-fn is_wanted(
-    c: &Cluster,
-    policy: &Policy,
-    rule: &Rule,
-    pod: &Pod,
-    q: &Question,
+// The same of any policy: the rules of one that doesn't apply match nothing.
+fn first_of_policy<'c>(
+    asked: &Asked,
+    policy: &'c Policy,
     stage: Stage,
-) -> bool
-    ensures { result ≡ (in_stage stage policy.now.key.kind rule.now.key && rule_matches c.now.cluster policy.now rule.now pod.now q.now) }
+    after: Option<&'c Rule>,
+) -> Option<&'c Rule>
+    ensures { (later : List Rule) → option_copied after.entry ≡ first rule_key later
+        → option_copied result ≡ first rule_key (filter (λ r. in_stage stage policy.now.key.kind r.key && rule_matches asked.now.cluster.now.cluster policy.now r asked.now.pod.now asked.now.question.now) policy.now.rules ++ later) }
 {
-    stage.includes(policy.key.kind, &rule.key) && rule_matches(c, policy, rule, pod, q)
+    if applies(asked.cluster, policy, asked.pod) {
+        first_of_applying(asked, policy, stage, after)
+    } else {
+        after
+    }
 }
 
 /// The first of the rules of the stage that match the question of the pod.
-pub(crate) fn first_rule<'c>(
-    c: &'c Cluster,
-    pod: &Pod,
-    q: &Question,
-    stage: Stage,
-) -> Option<&'c Rule>
-    ensures { option_copied result ≡ first rule_key (rules_with c.now.cluster pod.now q.now stage) }
+pub(crate) fn first_rule<'c>(asked: &Asked<'c, '_>, stage: Stage) -> Option<&'c Rule>
+    ensures { option_copied result ≡ first rule_key (rules_with asked.now.cluster.now.cluster asked.now.pod.now asked.now.question.now stage) }
 {
-    let policies = c.policies();
+    let policies = asked.cluster.policies();
     let mut found = None;
     for i in (0..policies.len()).rev() {
-        found = first_of_policy(c, &policies[i], pod, q, stage, found);
+        found = first_of_policy(asked, &policies[i], stage, found);
     }
     found
 }

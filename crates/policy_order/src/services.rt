@@ -1,11 +1,12 @@
 ghost use Rattle.std.specs.Prelude.{◌≡◌, ◌&&◌};
 ghost use Rattle.std.specs.List.{list_any};
-ghost use Rattle.cluster_objects.specs.Evaluation.{service_matches, is_port, defines, name_matches, services_match, peers_contain_pod};
-ghost use Rattle.cluster_objects.specs.Pod.{has_address};
+ghost use Rattle.cluster_types.specs.Evaluation.{service_matches, is_port, defines, name_matches, services_match, peers_contain_pod};
+ghost use Rattle.cluster_types.specs.Pod.{has_address};
 
+use crate::asked::Asked;
 use crate::peers::peers_contain_pod;
 use cl_types::{Dir, NamedPort, PortName, Question, Service};
-use cluster_objects::{Cluster, Pod, Rule};
+use cluster_objects::{Pod, Rule};
 
 fn service_matches(q: &Question, service: &Service) -> bool
     ensures { result ≡ service_matches q.now service.now }
@@ -31,40 +32,49 @@ fn any_is_port(q: &Question, name: &PortName, ports: &[NamedPort]) -> bool
     ports.iter().any(|port| is_port(q, name, port))
 }
 
-fn peer_defines(c: &Cluster, rule: &Rule, q: &Question, name: &PortName) -> bool
-    ensures { result ≡ list_any (λ d. has_address q.now.peer d && peers_contain_pod c.now.cluster d rule.now.peers && defines q.now name.now d) c.now.cluster.pods }
+// Whether the pod is among the rule's peers, by a group, and defines the name.
+fn names_port(asked: &Asked, pod: &Pod, rule: &Rule, name: &PortName) -> bool
+    ensures { result ≡ (peers_contain_pod asked.now.cluster.now.cluster pod.now rule.now.peers && defines asked.now.question.now name.now pod.now) }
 {
-    c.pods().iter().any(|pod| pod.has_address(q.peer)
-        && peers_contain_pod(c, pod, &rule.peers)
-        && defines(q, name, pod))
+    peers_contain_pod(asked.cluster, pod, &rule.peers) && defines(asked.question, name, pod)
 }
 
-fn name_matches(c: &Cluster, rule: &Rule, pod: &Pod, q: &Question, name: &PortName) -> bool
-    ensures { result ≡ name_matches c.now.cluster rule.now pod.now q.now name.now }
+// Whether the one counting pod at the peer's address is among the rule's peers and defines the name.
+fn peer_defines(asked: &Asked, rule: &Rule, name: &PortName) -> bool
+    ensures { result ≡ list_any (λ d. has_address asked.now.question.now.peer d && peers_contain_pod asked.now.cluster.now.cluster d rule.now.peers && defines asked.now.question.now name.now d) asked.now.cluster.now.cluster.pods }
 {
-    match q.dir {
-        Dir::Ingress => defines(q, name, pod),
-        Dir::Egress => peer_defines(c, rule, q, name),
+    match asked.peer {
+        Some(pod) => names_port(asked, pod, rule, name),
+        None => false,
     }
 }
 
-fn names_match(c: &Cluster, rule: &Rule, pod: &Pod, q: &Question) -> bool
-    ensures { result ≡ list_any (name_matches c.now.cluster rule.now pod.now q.now) rule.now.named }
+fn name_matches(asked: &Asked, rule: &Rule, name: &PortName) -> bool
+    ensures { result ≡ name_matches asked.now.cluster.now.cluster rule.now asked.now.pod.now asked.now.question.now name.now }
+{
+    match asked.question.dir {
+        Dir::Ingress => defines(asked.question, name, asked.pod),
+        Dir::Egress => peer_defines(asked, rule, name),
+    }
+}
+
+fn names_match(asked: &Asked, rule: &Rule) -> bool
+    ensures { result ≡ list_any (name_matches asked.now.cluster.now.cluster rule.now asked.now.pod.now asked.now.question.now) rule.now.named }
 {
     rule.named
         .as_slice()
         .iter()
-        .any(|name| name_matches(c, rule, pod, q, name))
+        .any(|name| name_matches(asked, rule, name))
 }
 
 /// Whether a rule matches the traffic of the question.
-pub(crate) fn services_match(c: &Cluster, rule: &Rule, pod: &Pod, q: &Question) -> bool
-    ensures { result ≡ services_match c.now.cluster rule.now pod.now q.now rule.now.services }
+pub(crate) fn services_match(asked: &Asked, rule: &Rule) -> bool
+    ensures { result ≡ services_match asked.now.cluster.now.cluster rule.now asked.now.pod.now asked.now.question.now rule.now.services }
 {
     match &rule.services {
         None => true,
-        Some(services) => any_service_matches(q, services.as_slice())
-            || names_match(c, rule, pod, q),
+        Some(services) => any_service_matches(asked.question, services.as_slice())
+            || names_match(asked, rule),
     }
 }
 

@@ -1,14 +1,16 @@
 ghost use Rattle.std.specs.Prelude.{◌≡◌, ◌≢◌, [], ◌∷◌};
 ghost use Rattle.cl_types.specs.declared.addr.Addr.TheVariants.{V4, V6};
 ghost use Rattle.cl_types.specs.PolicyName.{HasNoSlash};
-ghost use Rattle.cluster_objects.specs.Policy.{IsBaseline};
+ghost use Rattle.cluster_types.specs.Policy.{IsBaseline};
 
 use crate::judge;
 use cl_types::{
     Action, Addr, Copies, Dir, List, NamedPort, PodKey, PolicyKey, PolicyKind, PortName, Prefix,
     Proto, Question, RuleKey, Service, Text, write_judged,
 };
-use cluster_objects::{Block, Change, Cluster, NAME_LABEL, Object, Peer, Pod, Policy, Rule};
+use cluster_objects::{
+    Block, Change, Cluster, KUBE_TIER, NAME_LABEL, Object, Peer, Pod, Policy, Rule,
+};
 use label_select::{
     GroupKey, Labels, Need, Op, Scope, Selector, are_label_values, canon, is_label_key,
     is_namespace_name,
@@ -254,7 +256,7 @@ fn web_in(rt: &impl Abort, alloc: Global) -> Policy {
         name: text(rt, alloc, b"web-in"),
     };
     let parts = Parts {
-        tier: 255,
+        tier: KUBE_TIER,
         priority: 0,
         action: Action::Allow,
         dir: Dir::Ingress,

@@ -1,3 +1,1 @@
-pub mod AddressTexts
-pub mod JsonViews
-pub mod KubeRules
+pub mod ReadItems

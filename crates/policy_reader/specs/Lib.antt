@@ -1,5 +1,2 @@
-pub mod Fields
-pub mod Item
+pub mod Kinds
 pub mod ReadLine
-pub mod ReadObjects
-pub mod Texts

@@ -1,109 +1,178 @@
--- What a line of the input means at this stage: an object bare or in an ADDED event, a question about the
--- policies, or nothing where it is blank (Kubernetes: watch events; the control lines are this project's own).
-use Rattle.std.specs.Prelude.{ℕ, List, [], Bool, ◌&&◌, ◌||◌, ◌==◌, nat_lt, take, Option, Some, None, Result, Ok, Err, is_some, if◌then◌else◌, codes, position}
+-- What a line of the input says: objects, bare, in a List or in an event, a control line, or nothing where it is blank
+-- (Kubernetes: lists and watch events; the control lines are this project's own).
+use Rattle.std.specs.Prelude.{ℕ, ◌+◌, List, [], ◌∷◌, Bool, false, ◌||◌, ◌==◌, Option, Some, None, Result, Ok, Err, if◌then◌else◌, codes}
 use Rattle.std.specs.List.{list_all}
-use Rattle.std.specs.Option.{option_map_or}
 use Rattle.serde_json.specs.Data.{Data}
-use Rattle.cl_types.specs.Bytes.{slash}
-use Rattle.cl_types.specs.declared.addr.Addr.{Addr}
-use Rattle.cl_types.specs.declared.keys.Dir.{Dir}
-use Rattle.cl_types.specs.declared.service.Proto.{Proto}
-use Rattle.cl_types.specs.declared.service.Proto.TheVariants.{Tcp, Udp, Sctp, Icmp}
-use Rattle.cl_types.specs.declared.question.Question.{Question}
+use Rattle.serde_json.specs.Find.{as_str}
 use Rattle.cl_types.specs.Text.{text_eq}
-use Rattle.cluster_objects.specs.declared.change.Change.TheVariants.{Put}
-use Rattle.cluster_objects.specs.declared.change.Object.TheVariants as object
-use Rattle.policy_reader.specs.declared.item.Control.TheVariants.{Ask}
+use Rattle.cluster_types.specs.declared.references.RefItem.{RefItem}
+use Rattle.control_lines.specs.declared.control.ControlLine.{ControlLine}
+use Rattle.control_lines.specs.declared.control.ControlLine.TheVariants as control
+use Rattle.control_lines.specs.Control.{read_control}
+use Rattle.control_lines.specs.Needed.{◌>>=◌}
+use Rattle.json_fields.specs.declared.refusal.ReadRefusal.{ReadRefusal}
+use Rattle.json_fields.specs.declared.refusal.ReadRefusal.TheVariants.{BadShape}
+use Rattle.json_fields.specs.Faults.{index_step, least, under}
+use Rattle.json_fields.specs.Fields.{data_of, elements, field, is_object}
 use Rattle.policy_reader.specs.declared.item.LineItem.{LineItem}
 use Rattle.policy_reader.specs.declared.item.LineItem.TheVariants as line
-use Rattle.policy_reader.specs.declared.item.ReadRefusal.{ReadRefusal}
-use Rattle.policy_reader.specs.declared.item.ReadRefusal.TheVariants.{NotBuilt}
-use Rattle.policy_reader.specs.Item.{needed, ◌>>=◌}
-use Rattle.policy_reader.specs.Fields.{data_of, field, text_of, text_at, object_at}
-use Rattle.policy_reader.specs.ReadObjects.{whole_number, read_node, read_pod, read_policy}
-use Rattle.policy_reader.specs.Texts.{address_of_text, question_protocol, direction_of}
+use Rattle.policy_reader.specs.declared.kinds.ObjectKind.{ObjectKind}
+use Rattle.policy_reader.specs.declared.reader.Found.{Found}
+use Rattle.policy_reader.specs.declared.reader.Found.TheVariants.{Read, PassedOver}
+use Rattle.policy_reader.specs.Kinds.{faults_of, kind_of, removed_faults, removed_value, value_of}
+
+-- a value of the wrong kind, or one that is missing, at this path
+abbrev pub misshapen : {A : Type 0} → List ℕ → Result A ReadRefusal
+misshapen path = Err (BadShape path)
+
+-- what must be there, at this path
+abbrev pub needed : {A : Type 0} → List ℕ → Option A → Result A ReadRefusal
+needed path None = misshapen path
+needed path (Some x) = Ok x
 
 -- ---- objects
 
--- the text before the first `/`, empty where there is none
-abbrev pub group_of : List ℕ → List ℕ
-group_of version = option_map_or (λ i. take i version) (position (λ b. b == slash) version) []
+-- the value, where it has no fault, and else the fault that counts
+abbrev pub unless_faulty : {A : Type 0} → Option ReadRefusal → A → Result A ReadRefusal
+unless_faulty None x = Ok x
+unless_faulty (Some f) x = Err f
 
-abbrev pub group_in : Option Data → Result (List ℕ) ReadRefusal
-group_in None = Ok []
-group_in (Some d) = text_of d >>= λ version. Ok (group_of version)
+-- an object that is put
+abbrev pub put_of : ObjectKind → Data → Result RefItem ReadRefusal
+put_of k d = unless_faulty (least (faults_of k d)) (value_of k d)
 
--- the object of a kind in a group
-unfoldable pub object_of_kind : List ℕ → List ℕ → Data → Result LineItem ReadRefusal
-object_of_kind group kind d =
-    if text_eq group [] && text_eq kind (codes "Node") then (read_node d >>= λ n. Ok (line.Object (Put (object.Node n))))
-    else (if text_eq group [] && text_eq kind (codes "Pod") then (read_pod d >>= λ p. Ok (line.Object (Put (object.Pod p))))
-    else (if text_eq group (codes "networking.k8s.io") && text_eq kind (codes "NetworkPolicy") then (read_policy d >>= λ p. Ok (line.Object (Put (object.Policy p))))
-    else Err NotBuilt))
+-- an object that was deleted
+abbrev pub removed_of : ObjectKind → Data → Result RefItem ReadRefusal
+removed_of k d = unless_faulty (least (removed_faults k d)) (removed_value k d)
 
-unfoldable pub read_object : Data → Result LineItem ReadRefusal
-read_object d = do
-  kind ← text_at (codes "kind") d
-  group ← group_in (field (codes "apiVersion") d)
-  object_of_kind group kind d
+-- an object of a kind that isn't read is passed over
+unfoldable pub found_put : List ℕ → Data → Option ObjectKind → Result Found ReadRefusal
+found_put name d None = Ok (PassedOver name)
+found_put name d (Some k) = put_of k d >>= λ i. Ok (Read i)
 
--- ---- questions
+unfoldable pub found_removed : List ℕ → Data → Option ObjectKind → Result Found ReadRefusal
+found_removed name d None = Ok (PassedOver name)
+found_removed name d (Some k) = removed_of k d >>= λ i. Ok (Read i)
 
-unfoldable pub port_at : Data → Result ℕ ReadRefusal
-port_at d = do
-  value ← needed (field (codes "port") d)
-  n ← needed (whole_number value)
-  if nat_lt n 65536 then Ok n else Err NotBuilt
+-- the object, whose kind has this name
+unfoldable pub read_put : List ℕ → Data → Result Found ReadRefusal
+read_put name d = kind_of name (field (codes "apiVersion") d) >>= found_put name d
 
--- a number of 16 bits; a question about ICMP has port 0
-unfoldable pub question_port : Proto → Data → Result ℕ ReadRefusal
-question_port Tcp d = port_at d
-question_port Udp d = port_at d
-question_port Sctp d = port_at d
-question_port Icmp d = Ok 0
+unfoldable pub read_removed : List ℕ → Data → Result Found ReadRefusal
+read_removed name d = kind_of name (field (codes "apiVersion") d) >>= found_removed name d
 
-abbrev pub direction_at : Data → Result Dir ReadRefusal
-direction_at d = text_at (codes "direction") d >>= λ t. needed (direction_of t)
+abbrev pub line_of : Found → LineItem
+line_of (Read i) = line.Objects (i ∷ [])
+line_of (PassedOver name) = line.Ignored name
 
-abbrev pub address_at : List ℕ → Data → Result Addr ReadRefusal
-address_at name d = text_at name d >>= λ t. needed (address_of_text t)
+-- ---- lists
 
-abbrev pub protocol_at : Data → Result Proto ReadRefusal
-protocol_at d = text_at (codes "protocol") d >>= λ t. needed (question_protocol t)
+-- the kind of an object that stands in another value, which isn't a List
+abbrev pub kind_within : List ℕ → Result (List ℕ) ReadRefusal
+kind_within name = if text_eq name (codes "List") then misshapen (codes "kind") else Ok name
 
-unfoldable pub read_question : Data → Result Question ReadRefusal
-read_question d = do
-  dir ← direction_at d
-  own ← address_at (codes "own") d
-  peer ← address_at (codes "peer") d
-  proto ← protocol_at d
-  port ← question_port proto d
-  Ok (record { dir = dir; own = own; peer = peer; proto = proto; port = port })
+-- the name of the kind of an object that stands in another value
+unfoldable pub inner_kind : Data → Result (List ℕ) ReadRefusal
+inner_kind d =
+    if is_object d
+    then (needed (codes "kind") (field (codes "kind") d) >>= λ k. (needed (codes "kind") (as_str k) >>= kind_within))
+    else misshapen []
 
--- a question of the view `policies`
-unfoldable pub read_ask : Data → Result LineItem ReadRefusal
-read_ask d = do
-  node ← text_at (codes "node") d
-  view ← text_at (codes "view") d
-  if text_eq view (codes "policies")
-      then (read_question d >>= λ q. Ok (line.Control (Ask node q)))
-      else Err NotBuilt
+unfoldable pub read_inner : Data → Result Found ReadRefusal
+read_inner d = inner_kind d >>= λ name. read_put name d
+
+-- a fault of an item, as it is told of the list
+abbrev pub of_item : ℕ → Result Found ReadRefusal → Result Found ReadRefusal
+of_item i (Ok found) = Ok found
+of_item i (Err f) = Err (under (codes "items") (under (index_step i) f))
+
+-- the item at place i of a list
+unfoldable pub item_at : ℕ → Data → Result Found ReadRefusal
+item_at i d = of_item i (read_inner d)
+
+-- items that are passed over are left out
+abbrev pub kept : Found → List RefItem → List RefItem
+kept (Read i) is = i ∷ is
+kept (PassedOver name) is = is
+
+-- the items from the i-th on; the first that has a fault decides
+abbrev pub read_items : ℕ → List Data → Result (List RefItem) ReadRefusal
+read_items i [] = Ok []
+read_items i (d ∷ ds) = item_at i d >>= λ found. (read_items (i + 1) ds >>= λ is. Ok (kept found is))
+
+unfoldable pub list_items : Data → Result (List Data) ReadRefusal
+list_items d = needed (codes "items") (field (codes "items") d) >>= λ list. needed (codes "items") (elements list)
+
+unfoldable pub read_list : Data → Result LineItem ReadRefusal
+read_list d = list_items d >>= λ ds. (read_items 0 ds >>= λ is. Ok (line.Objects is))
+
+-- ---- events
+
+-- The object of an event. That it is none, or has no kind, is a fault of the event.
+unfoldable pub event_object : Data → Result Data ReadRefusal
+event_object d = needed (codes "object") (field (codes "object") d) >>= λ o. (if is_object o then Ok o else misshapen (codes "object"))
+
+abbrev pub of_object : Result (List ℕ) ReadRefusal → Result (List ℕ) ReadRefusal
+of_object (Ok name) = Ok name
+of_object (Err f) = Err (under (codes "object") f)
+
+unfoldable pub read_added : Data → Result LineItem ReadRefusal
+read_added d = event_object d >>= λ o. (of_object (inner_kind o) >>= λ name. (read_put name o >>= λ found. Ok (line_of found)))
+
+unfoldable pub read_deleted : Data → Result LineItem ReadRefusal
+read_deleted d = event_object d >>= λ o. (of_object (inner_kind o) >>= λ name. (read_removed name o >>= λ found. Ok (line_of found)))
+
+abbrev pub line_of_control : ControlLine → LineItem
+line_of_control (control.Control c) = line.Control c
+line_of_control (control.Order o) = line.Order o
+
+-- the type of a control line begins with `X-`
+abbrev pub is_control : List ℕ → Bool
+is_control (a ∷ b ∷ rest) = text_eq (a ∷ b ∷ []) (codes "X-")
+is_control _ = false
+
+unfoldable pub read_other : List ℕ → Data → Result LineItem ReadRefusal
+read_other type d =
+    if is_control type then (read_control type d >>= λ c. Ok (line_of_control c)) else misshapen (codes "type")
+
+unfoldable pub is_put : List ℕ → Bool
+is_put type = text_eq type (codes "ADDED") || text_eq type (codes "MODIFIED")
+
+unfoldable pub read_event : List ℕ → Data → Result LineItem ReadRefusal
+read_event type d =
+    if is_put type then read_added d
+    else (if text_eq type (codes "DELETED") then read_deleted d
+    else (if text_eq type (codes "BOOKMARK") then Ok (line.Ignored (codes "BOOKMARK")) else read_other type d))
 
 -- ---- lines
 
-unfoldable pub read_event : Data → Result LineItem ReadRefusal
-read_event d = do
-  type ← text_at (codes "type") d
-  if text_eq type (codes "ADDED") then (object_at (codes "object") d >>= read_object)
-      else (if text_eq type (codes "X-ASK") then read_ask d else Err NotBuilt)
+-- an object that stands alone, or a List
+unfoldable pub read_bare : List ℕ → Data → Result LineItem ReadRefusal
+read_bare name d = if text_eq name (codes "List") then read_list d else (read_put name d >>= λ found. Ok (line_of found))
 
--- a value with `kind` is an object, and any other an event or a control line
+-- a value without `kind` is an event or a control line, by its type
+unfoldable pub read_typed : Data → Result LineItem ReadRefusal
+read_typed d = needed (codes "kind") (field (codes "type") d) >>= λ t. (needed (codes "type") (as_str t) >>= λ type. read_event type d)
+
+abbrev pub by_kind : Option Data → Data → Result LineItem ReadRefusal
+by_kind None d = read_typed d
+by_kind (Some k) d = needed (codes "kind") (as_str k) >>= λ name. read_bare name d
+
 unfoldable pub read_value : Data → Result LineItem ReadRefusal
-read_value d = if is_some (field (codes "kind") d) then read_object d else read_event d
+read_value d = if is_object d then by_kind (field (codes "kind") d) d else misshapen (codes ".")
+
+abbrev pub space : ℕ
+space = 32
+
+abbrev pub tab : ℕ
+tab = 9
+
+abbrev pub carriage_return : ℕ
+carriage_return = 13
 
 -- spaces, tabs and carriage returns alone
 abbrev pub is_blank : List ℕ → Bool
-is_blank bytes = list_all (λ b. (b == 32) || (b == 9) || (b == 13)) bytes
+is_blank bytes = list_all (λ b. (b == space) || (b == tab) || (b == carriage_return)) bytes
 
 unfoldable pub read_line : List ℕ → Result LineItem ReadRefusal
 read_line bytes = if is_blank bytes then Ok line.Blank else (data_of bytes >>= read_value)

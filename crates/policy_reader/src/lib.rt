@@ -1,20 +1,11 @@
-//! Reading lines of JSON: objects of Kubernetes, bare or in an event, and control lines.
+//! Reading lines of JSON: objects of Kubernetes and Antrea, bare, in a List or in an event, and control lines.
 #![tactic(auto)]
 
 mod item;
-mod json;
-mod metadata;
-mod nodes;
-mod pods;
-mod policies;
-mod questions;
+mod kinds;
 mod reader;
-mod rules;
-mod selectors;
-mod texts;
 
-pub use item::{Control, LineItem, ReadRefusal};
+pub use control_lines::{Control, NodeOrder};
+pub use item::LineItem;
+pub use json_fields::ReadRefusal;
 pub use reader::read_line;
-
-#[cfg(test)]
-mod tests;

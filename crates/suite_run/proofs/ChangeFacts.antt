@@ -12,26 +12,26 @@ use Rattle.cl_types.specs.Equality.{is_same}
 use Rattle.cl_types.specs.EqualityLaws.{is_same-one}
 use Rattle.cl_types.specs.RuleOrder.{pod_order, pod_order_total, policy_order, policy_order_total}
 use Rattle.cl_types.specs.Text.{text_order, text_order_total}
-use Rattle.cluster_objects.specs.declared.change.Change.{Change}
-use Rattle.cluster_objects.specs.declared.change.Change.TheVariants.{Put, Remove}
+use Rattle.cluster_types.specs.declared.change.Change.{Change}
+use Rattle.cluster_types.specs.declared.change.Change.TheVariants.{Put, Remove}
 use Rattle.cluster_objects.specs.declared.change.ClusterRefusal.{ClusterRefusal}
-use Rattle.cluster_objects.specs.declared.change.Object.TheVariants as object
-use Rattle.cluster_objects.specs.declared.change.ObjectKey.TheVariants as key
-use Rattle.cluster_objects.specs.declared.egress.EgressObj as egress
-use Rattle.cluster_objects.specs.declared.node.Namespace as namespace
-use Rattle.cluster_objects.specs.declared.node.NodeInfo as node
-use Rattle.cluster_objects.specs.declared.pod.Pod as pod
-use Rattle.cluster_objects.specs.declared.policy.Policy as policy
-use Rattle.cluster_objects.specs.declared.policy.Tier as tier
+use Rattle.cluster_types.specs.declared.change.Object.TheVariants as object
+use Rattle.cluster_types.specs.declared.change.ObjectKey.TheVariants as key
+use Rattle.cluster_types.specs.declared.egress.EgressObj as egress
+use Rattle.cluster_types.specs.declared.node.Namespace as namespace
+use Rattle.cluster_types.specs.declared.node.NodeInfo as node
+use Rattle.cluster_types.specs.declared.pod.Pod as pod
+use Rattle.cluster_types.specs.declared.policy.Policy as policy
+use Rattle.cluster_types.specs.declared.policy.Tier as tier
 use Rattle.cluster_objects.specs.Apply.{Outcome, Placed, makes_difference, difference, is_there, placed, removed, without_tier, made, numbered, numbered_policy}
 use Rattle.cluster_objects.specs.Changes.{apply, apply_numbered, is_node, unless}
-use Rattle.cluster_objects.specs.Cluster.{ClusterData, no_objects}
-use Rattle.cluster_objects.specs.Egress.{EgressData}
-use Rattle.cluster_objects.specs.Node.{NamespaceData, NodeData}
-use Rattle.cluster_objects.specs.Pod.{PodData}
-use Rattle.cluster_objects.specs.Policy.{PolicyData}
+use Rattle.cluster_types.specs.Cluster.{ClusterData, no_objects}
+use Rattle.cluster_types.specs.Egress.{EgressData}
+use Rattle.cluster_types.specs.Node.{NamespaceData, NodeData}
+use Rattle.cluster_types.specs.Pod.{PodData}
+use Rattle.cluster_types.specs.Policy.{PolicyData}
 use Rattle.cluster_objects.specs.Refusals.{first_refusal, checks, when}
-use Rattle.cluster_objects.specs.Tier.{TierData, tier_named}
+use Rattle.cluster_types.specs.Tier.{TierData, tier_named}
 
 -- the objects of each kind ascend by their keys
 pub record IsOrdered (c : ClusterData) : Type 0 where

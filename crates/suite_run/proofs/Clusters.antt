@@ -1,19 +1,19 @@
 -- The clusters of the revisions.
 use Rattle.std.proofs.Common.{◌≡◌, ℕ, ◌+◌, Bool, true, false, not, ◌&&◌, ◌||◌, Result, Ok, Err, List, [], ◌∷◌, length, if◌then◌else◌, refl, ap, sym, subst, ◌∙◌, arith, ◌⊎◌, inl, inr, true≢false}
 use Rattle.cluster_objects.specs.declared.change.Applied.{Applied}
-use Rattle.cluster_objects.specs.declared.change.Change.{Change}
+use Rattle.cluster_types.specs.declared.change.Change.{Change}
 use Rattle.cluster_objects.specs.declared.change.ClusterRefusal.{ClusterRefusal}
 use Rattle.cluster_objects.specs.declared.change.ClusterRefusal.TheVariants as cluster
 use Rattle.cl_types.specs.Judgement.{Judgement}
 use Rattle.cl_types.specs.declared.question.Question.{Question}
 use Rattle.cluster_objects.specs.Apply.{Outcome, makes_difference}
 use Rattle.cluster_objects.specs.Changes.{after, and_then, apply, is_node, joined, Outcomes}
-use Rattle.cluster_objects.specs.Evaluation.{side}
-use Rattle.cluster_objects.specs.Node.{NodeData}
-use Rattle.cluster_objects.specs.Cluster.{ClusterData, no_objects}
+use Rattle.cluster_types.specs.Evaluation.{side}
+use Rattle.cluster_types.specs.Node.{NodeData}
+use Rattle.cluster_types.specs.Cluster.{ClusterData, no_objects}
 use Rattle.suite_run.specs.declared.item.Refusal.TheVariants.{NoNode}
 use Rattle.suite_run.specs.declared.item.Item.{Item}
-use Rattle.suite_run.specs.declared.item.Item.TheVariants.{Objects, Ask, Blank, Refused}
+use Rattle.suite_run.specs.declared.item.Item.TheVariants.{Objects, Ignored, Ask, Blank, Refused}
 use Rattle.suite_run.specs.Blocks.{world_after}
 use Rattle.suite_run.specs.History.{revised_to, revisions, nodes_alone, last_or, RevisionsAreCounted, TheLastIsTheCluster}
 use Rattle.suite_run.specs.World.{WorldData, OutcomeData, Step, refused, judged, told_refusal, step_of_changes, differs, step, item_of, answer, is_listed, first_world, happens}
@@ -61,6 +61,7 @@ count-step : (w : WorldData) (s : Item) → Counts w (step w s)
 unfolding step
 count-step w (Objects changes) later = count-step_of_changes w (after w.cluster changes) later
 count-step w (Ask node question) later = ap (λ z. w.revision + length z) (sym (answer_is_none w node question later))
+count-step w (Ignored kind) later = refl
 count-step w Blank later = refl
 count-step w (Refused r) later = refl
 
@@ -101,6 +102,7 @@ ordered-step : (w : WorldData) (s : Item) → IsOrdered w.cluster → IsOrdered 
 unfolding step
 ordered-step w (Objects changes) u = ordered-step_of_changes w (after w.cluster changes) u (ordered-after w.cluster u changes)
 ordered-step w (Ask node question) u = u
+ordered-step w (Ignored kind) u = u
 ordered-step w Blank u = u
 ordered-step w (Refused r) u = u
 
@@ -246,6 +248,7 @@ late-step : (w : WorldData) (s : Item) → IsOrdered w.cluster → w.cluster.fix
 unfolding step
 late-step w (Objects changes) u f = late-step_of_changes w (after w.cluster changes) f (late-after w.cluster u changes f)
 late-step w (Ask node question) u f = record { fixed = f; nodes = refl; last = λ later. ap (last_or w.cluster) (answer_is_none w node question later) }
+late-step w (Ignored kind) u f = record { fixed = f; nodes = refl; last = λ later. refl }
 late-step w Blank u f = record { fixed = f; nodes = refl; last = λ later. refl }
 late-step w (Refused r) u f = record { fixed = f; nodes = refl; last = λ later. refl }
 
@@ -291,6 +294,7 @@ turned-step : (w : WorldData) (s : Item) → IsOrdered w.cluster → IsEarly w.c
 unfolding step
 turned-step w (Objects changes) u e = turned-step_of_changes w (after w.cluster changes) e (turned-after w.cluster u changes e)
 turned-step w (Ask node question) u e = inl (e, λ later. answer_is_none w node question later)
+turned-step w (Ignored kind) u e = inl (e, λ later. refl)
 turned-step w Blank u e = inl (e, λ later. refl)
 turned-step w (Refused r) u e = inl (e, λ later. refl)
 

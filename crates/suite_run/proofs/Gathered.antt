@@ -1,12 +1,12 @@
 -- What changes come to, one after another.
 use Rattle.std.proofs.Common.{rules, ◌≡◌, Bool, true, false, not, ◌&&◌, ◌||◌, Result, Ok, Err, List, [], ◌∷◌, ◌++◌, Option, Some, None, option_to_list, refl, ap, ◌∙◌}
 use Rattle.cluster_objects.specs.declared.change.Applied.{Applied}
-use Rattle.cluster_objects.specs.declared.change.Change.{Change}
+use Rattle.cluster_types.specs.declared.change.Change.{Change}
 use Rattle.cluster_objects.specs.declared.change.ClusterRefusal.{ClusterRefusal}
 use Rattle.cluster_objects.specs.declared.change.ClusterRefusal.TheVariants as cluster
 use Rattle.cluster_objects.specs.Apply.{Outcome, outcome, makes_difference}
 use Rattle.cluster_objects.specs.Changes.{after, and_then, apply, is_node, joined, Follows, Outcomes}
-use Rattle.cluster_objects.specs.Cluster.{ClusterData}
+use Rattle.cluster_types.specs.Cluster.{ClusterData}
 use Rattle.suite_run.specs.declared.world.Differences.{Differences}
 use Rattle.suite_run.specs.Shown.{ComesTo}
 

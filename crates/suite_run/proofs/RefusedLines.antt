@@ -3,7 +3,7 @@ use Rattle.std.proofs.Common.{◌≡◌, ℕ, ◌+◌, Bool, true, false, IsTrue
 use Rattle.cluster_objects.specs.declared.change.ClusterRefusal.{ClusterRefusal}
 use Rattle.cluster_objects.specs.Changes.{after, Outcomes}
 use Rattle.suite_run.specs.declared.item.Item.{Item}
-use Rattle.suite_run.specs.declared.item.Item.TheVariants.{Objects, Ask, Blank, Refused}
+use Rattle.suite_run.specs.declared.item.Item.TheVariants.{Objects, Ignored, Ask, Blank, Refused}
 use Rattle.suite_run.specs.Blocks.{block_text, world_after, blocks}
 use Rattle.suite_run.specs.Laws.{RefusedLinesChangeNothing, RefusedLinesAreAsBlank}
 use Rattle.suite_run.specs.World.{WorldData, step, step_of_changes, differs, item_of, is_refusal, outcome, happens}
@@ -22,6 +22,7 @@ refused-step : (w : WorldData) (s : Item) → IsTrue (is_refusal (step w s).outc
 unfolding step
 refused-step w (Objects changes) h = refused-step_of_changes w (after w.cluster changes) h
 refused-step w (Ask node question) h = refl
+refused-step w (Ignored kind) h = refl
 refused-step w Blank h = refl
 refused-step w (Refused r) h = refl
 

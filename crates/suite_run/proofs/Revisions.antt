@@ -3,7 +3,7 @@ use Rattle.std.proofs.Common.{◌+◌, ◌≤◌, Bool, true, false, Result, Ok,
 use Rattle.cluster_objects.specs.declared.change.ClusterRefusal.{ClusterRefusal}
 use Rattle.cluster_objects.specs.Changes.{after, Outcomes}
 use Rattle.suite_run.specs.declared.item.Item.{Item}
-use Rattle.suite_run.specs.declared.item.Item.TheVariants.{Objects, Ask, Blank, Refused}
+use Rattle.suite_run.specs.declared.item.Item.TheVariants.{Objects, Ignored, Ask, Blank, Refused}
 use Rattle.suite_run.specs.World.{WorldData, step, step_of_changes, differs}
 
 revision-differs : (node other : Bool) (w : WorldData) → (differs node other w).world.revision ≤ w.revision + 1
@@ -19,5 +19,6 @@ pub revision-step : (w : WorldData) (s : Item) → (step w s).world.revision ≤
 unfolding step
 revision-step w (Objects changes) = revision-step_of_changes w (after w.cluster changes)
 revision-step w (Ask node question) = omega arith
+revision-step w (Ignored kind) = omega arith
 revision-step w Blank = omega arith
 revision-step w (Refused r) = omega arith

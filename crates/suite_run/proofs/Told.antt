@@ -4,7 +4,7 @@ use Rattle.cluster_objects.specs.declared.change.ClusterRefusal.{ClusterRefusal}
 use Rattle.cluster_objects.specs.declared.change.ClusterRefusal.TheVariants as cluster
 use Rattle.cluster_objects.specs.Apply.{Outcome}
 use Rattle.cluster_objects.specs.Changes.{Follows, Outcomes}
-use Rattle.cluster_objects.specs.Cluster.{ClusterData}
+use Rattle.cluster_types.specs.Cluster.{ClusterData}
 use Rattle.suite_run.specs.declared.world.LineOutcome.{LineOutcome}
 use Rattle.suite_run.specs.Shown.{outcome_of, ComesTo, IsTold}
 use Rattle.suite_run.specs.World.{Step, WorldData, step_of_changes, tells}

@@ -6,16 +6,26 @@ use Rattle.cl_io.specs.Lines.{line_feed, whole_lines}
 use Rattle.cl_types.specs.Written.{pod_text, policy_text, judged_text}
 use Rattle.cluster_objects.specs.declared.change.ClusterRefusal.{ClusterRefusal}
 use Rattle.cluster_objects.specs.declared.change.ClusterRefusal.TheVariants as cluster
-use Rattle.policy_reader.specs.declared.item.ReadRefusal.{ReadRefusal}
-use Rattle.policy_reader.specs.declared.item.ReadRefusal.TheVariants as reading
+use Rattle.json_fields.specs.declared.refusal.ReadRefusal.{ReadRefusal}
+use Rattle.json_fields.specs.declared.refusal.ReadRefusal.TheVariants as reading
 use Rattle.suite_run.specs.declared.item.Refusal.{Refusal}
-use Rattle.suite_run.specs.declared.item.Refusal.TheVariants.{Reading, TooLong, Applying, NoNode}
-use Rattle.suite_run.specs.World.{WorldData, OutcomeData, silent, revision, node_count, no_change, refused, judged, is_refusal, first_world, outcome, happens}
+use Rattle.suite_run.specs.declared.item.Refusal.TheVariants.{Reading, NotBuilt, TooLong, Applying, NoNode}
+use Rattle.suite_run.specs.World.{WorldData, OutcomeData, silent, revision, node_count, no_change, passed_over, refused, judged, is_refusal, first_world, outcome, happens}
 
 -- the refusal's name, and a space and the detail where there is one
 abbrev pub reading_text : ReadRefusal → List ℕ
 reading_text reading.NotJson = codes "NotJson"
-reading_text reading.NotBuilt = codes "NotBuilt"
+reading_text (reading.BadShape path) = codes "BadShape " ++ path
+reading_text (reading.Unsupported field) = codes "Unsupported " ++ field
+reading_text reading.BadName = codes "BadName"
+reading_text reading.BadLabel = codes "BadLabel"
+reading_text reading.BadSelector = codes "BadSelector"
+reading_text reading.BadAddr = codes "BadAddr"
+reading_text reading.BadPrefix = codes "BadPrefix"
+reading_text reading.BadPort = codes "BadPort"
+reading_text reading.BadPriority = codes "BadPriority"
+reading_text reading.BadAction = codes "BadAction"
+reading_text reading.BadControl = codes "BadControl"
 reading_text reading.NoMemory = []
 
 abbrev pub applying_text : ClusterRefusal → List ℕ
@@ -32,6 +42,7 @@ applying_text cluster.NoMemory = []
 
 abbrev pub refusal_text : Refusal → List ℕ
 refusal_text (Reading refusal) = reading_text refusal
+refusal_text NotBuilt = codes "NotBuilt"
 refusal_text (TooLong count) = codes "TooLong " ++ decimal count
 refusal_text (Applying refusal) = applying_text refusal
 refusal_text NoNode = codes "NoNode"
@@ -41,6 +52,7 @@ outcome_text silent = []
 outcome_text (revision r) = codes "revision " ++ decimal r
 outcome_text (node_count k) = codes "nodes " ++ decimal k
 outcome_text no_change = codes "unchanged"
+outcome_text (passed_over kind) = codes "ignored " ++ kind
 outcome_text (refused r) = codes "refused " ++ refusal_text r
 outcome_text (judged r j) = codes "controller " ++ (decimal r ++ (codes " " ++ judged_text j))
 

@@ -1,6 +1,6 @@
 -- The clusters that the revisions of a run name (this project's own).
 use Rattle.std.specs.Prelude.{◌≡◌, ℕ, List, [], ◌∷◌, length, true, IsTrue}
-use Rattle.cluster_objects.specs.Cluster.{ClusterData, no_objects}
+use Rattle.cluster_types.specs.Cluster.{ClusterData, no_objects}
 use Rattle.suite_run.specs.Blocks.{world_after}
 use Rattle.suite_run.specs.World.{WorldData, OutcomeData, revision, first_world, outcome, happens}
 

@@ -3,7 +3,7 @@ use Rattle.std.specs.Prelude.{◌≡◌, ℕ, Result, Ok, Err}
 use Rattle.cluster_objects.specs.declared.change.ClusterRefusal.{ClusterRefusal}
 use Rattle.cluster_objects.specs.declared.change.ClusterRefusal.TheVariants.{NoMemory}
 use Rattle.cluster_objects.specs.Changes.{Outcomes}
-use Rattle.cluster_objects.specs.Cluster.{ClusterData}
+use Rattle.cluster_types.specs.Cluster.{ClusterData}
 use Rattle.cl_types.specs.Judgement.{judgement_of}
 use Rattle.suite_run.specs.declared.item.Refusal.TheVariants.{Applying}
 use Rattle.suite_run.specs.declared.world.LineOutcome.{LineOutcome}
@@ -12,7 +12,7 @@ use Rattle.suite_run.specs.declared.blocks.LineBlock.{LineBlock}
 use Rattle.suite_run.specs.declared.world.World.{World}
 use Rattle.suite_run.specs.Blocks.{block_text}
 use Rattle.suite_run.specs.declared.world.Differences.{Differences}
-use Rattle.suite_run.specs.World.{OutcomeData, Step, WorldData, is_refusal, silent, revision, node_count, no_change, refused, judged}
+use Rattle.suite_run.specs.World.{OutcomeData, Step, WorldData, is_refusal, silent, revision, node_count, no_change, passed_over, refused, judged}
 
 -- the same without where a rule lies in memory
 abbrev pub outcome_of : LineOutcome → OutcomeData
@@ -20,6 +20,7 @@ outcome_of outcome.Silent = silent
 outcome_of (outcome.Revision r) = revision r
 outcome_of (outcome.Nodes k) = node_count k
 outcome_of outcome.Unchanged = no_change
+outcome_of (outcome.Ignored kind) = passed_over kind
 outcome_of (outcome.Refused r) = refused r
 outcome_of (outcome.Controller r j) = judged r (judgement_of j)
 

@@ -9,7 +9,7 @@ use crate::item::Refusal;
 use crate::world::LineOutcome;
 use cl_types::{NoMemory, Text, write_bytes, write_judged, write_number, write_pod, write_policy};
 use cluster_objects::ClusterRefusal;
-use policy_reader::ReadRefusal;
+use json_fields::ReadRefusal;
 use std::alloc::Global;
 
 /// What is printed of a line, and whether it says that the line is refused.
@@ -62,6 +62,7 @@ fn write_outcome(out: &mut Text, outcome: &LineOutcome) -> Result<(), NoMemory>
         LineOutcome::Revision(revision) => write_counted(out, b"revision ", *revision),
         LineOutcome::Nodes(count) => write_counted(out, b"nodes ", *count),
         LineOutcome::Unchanged => write_bytes(out, b"unchanged"),
+        LineOutcome::Ignored(kind) => write_detail(out, b"ignored ", kind),
         LineOutcome::Refused(refusal) => {
             write_bytes(out, b"refused ")?;
             write_refusal(out, refusal)
@@ -86,6 +87,7 @@ fn write_refusal(out: &mut Text, refusal: &Refusal) -> Result<(), NoMemory>
 {
     match refusal {
         Refusal::Reading(refusal) => write_reading(out, refusal),
+        Refusal::NotBuilt => write_bytes(out, b"NotBuilt"),
         Refusal::TooLong(count) => write_counted(out, b"TooLong ", *count),
         Refusal::Applying(refusal) => write_applying(out, refusal),
         Refusal::NoNode => write_bytes(out, b"NoNode"),
@@ -104,7 +106,17 @@ fn write_reading(out: &mut Text, refusal: &ReadRefusal) -> Result<(), NoMemory>
 {
     match refusal {
         ReadRefusal::NotJson => write_bytes(out, b"NotJson"),
-        ReadRefusal::NotBuilt => write_bytes(out, b"NotBuilt"),
+        ReadRefusal::BadShape(path) => write_detail(out, b"BadShape ", path),
+        ReadRefusal::Unsupported(field) => write_detail(out, b"Unsupported ", field),
+        ReadRefusal::BadName => write_bytes(out, b"BadName"),
+        ReadRefusal::BadLabel => write_bytes(out, b"BadLabel"),
+        ReadRefusal::BadSelector => write_bytes(out, b"BadSelector"),
+        ReadRefusal::BadAddr => write_bytes(out, b"BadAddr"),
+        ReadRefusal::BadPrefix => write_bytes(out, b"BadPrefix"),
+        ReadRefusal::BadPort => write_bytes(out, b"BadPort"),
+        ReadRefusal::BadPriority => write_bytes(out, b"BadPriority"),
+        ReadRefusal::BadAction => write_bytes(out, b"BadAction"),
+        ReadRefusal::BadControl => write_bytes(out, b"BadControl"),
         ReadRefusal::NoMemory => Ok(()),
     }
 }

@@ -1,23 +1,29 @@
 //! What a line says, or why it is refused.
 ghost use Rattle.std.specs.Prelude.{◌≡◌, ℕ, List, [], ◌∷◌, IfOk, Result};
+ghost use Rattle.std.specs.List.{list_all};
 ghost use Rattle.cl_io.specs.Reader.{Hands, KeepsLimit};
-ghost use Rattle.policy_reader.specs.declared.item.ReadRefusal.{ReadRefusal};
-ghost use Rattle.policy_reader.specs.Item.{Gives};
+ghost use Rattle.json_fields.specs.Answer.{Gives};
+ghost use Rattle.json_fields.specs.declared.refusal.ReadRefusal.{ReadRefusal};
 ghost use Rattle.policy_reader.specs.declared.item.LineItem.{LineItem};
-ghost use Rattle.suite_run.specs.declared.item.Item.TheVariants.{Objects};
-ghost use Rattle.suite_run.specs.World.{line_limit, item_of, item_read};
+ghost use Rattle.suite_run.specs.World.{line_limit, item_of, item_read, item_of_line, item_of_control, built_objects, is_empty, has_references, built_policy, built};
 
 use cl_io::Line;
 use cl_types::{List, NoMemory, Question, Text};
 use cluster_objects::{Change, ClusterRefusal};
-use policy_reader::{Control, LineItem, ReadRefusal, read_line};
+use cluster_types::{Object, RefItem, RefPolicy};
+use control_lines::Control;
+use json_fields::ReadRefusal;
+use policy_reader::{LineItem, read_line};
 use std::alloc::Global;
+use std::mem;
 
 /// Why a line is refused.
 #[derive(Debug, Drop)]
 pub(crate) enum Refusal {
     /// The line can't be read.
     Reading(ReadRefusal),
+    /// The line is read, but nothing serves yet what it says.
+    NotBuilt,
     /// The line has more bytes than a line may have: so many.
     TooLong(u64),
     /// One of its changes is refused.
@@ -30,6 +36,8 @@ pub(crate) enum Refusal {
 #[derive(Debug, Drop)]
 pub(crate) enum Item {
     Objects(List<Change>),
+    /// An object of this kind isn't looked at.
+    Ignored(Text),
     Ask { node: Text, question: Question },
     Blank,
     Refused(Refusal),
@@ -52,18 +60,83 @@ fn item_read(alloc: Global, read: Result<LineItem, ReadRefusal>) -> Result<Item,
     ensures { (was : Result LineItem ReadRefusal) → Gives (λ (x : LineItem). x) read was → IfOk result (λ item. item_read was ≡ item) }
 {
     match read {
-        Ok(LineItem::Object(change)) => one_object(alloc, change),
-        Ok(LineItem::Control(Control::Ask { node, question })) => Ok(Item::Ask { node, question }),
-        Ok(LineItem::Blank) => Ok(Item::Blank),
+        Ok(item) => item_of_line(alloc, item),
         Err(ReadRefusal::NoMemory) => Err(NoMemory),
         Err(refusal) => Ok(Item::Refused(Refusal::Reading(refusal))),
     }
 }
 
-fn one_object(alloc: Global, change: Change) -> Result<Item, NoMemory>
-    ensures { IfOk result (λ item. item ≡ Objects (change ∷ [])) }
+fn item_of_line(alloc: Global, item: LineItem) -> Result<Item, NoMemory>
+    ensures { IfOk result (λ i. item_of_line item ≡ i) }
 {
-    let mut changes = Vec::with_capacity(alloc, 1)?;
-    changes.push(change)?;
+    match item {
+        LineItem::Objects(items) => built_objects(alloc, items),
+        LineItem::Ignored(kind) => Ok(Item::Ignored(kind)),
+        LineItem::Control(control) => Ok(item_of_control(control)),
+        LineItem::Order(_) => Ok(Item::Refused(Refusal::NotBuilt)),
+        LineItem::Blank => Ok(Item::Blank),
+    }
+}
+
+fn item_of_control(control: Control) -> Item
+    ensures { result ≡ item_of_control control }
+{
+    match control {
+        Control::Ask { node, question } => Item::Ask { node, question },
+        _ => Item::Refused(Refusal::NotBuilt),
+    }
+}
+
+// The changes of objects that are all built, or a refusal of the whole line.
+fn built_objects(alloc: Global, mut items: List<RefItem>) -> Result<Item, NoMemory>
+    ensures { IfOk result (λ i. built_objects items ≡ i) }
+{
+    let items = mem::replace(items.vec_mut(), Vec::new(alloc));
+    let mut changes = Vec::with_capacity(alloc, items.len())?;
+    for item in items {
+        match built(item) {
+            Some(change) => changes.push(change)?,
+            None => return Ok(Item::Refused(Refusal::NotBuilt)),
+        }
+    }
     Ok(Item::Objects(List::of(changes)))
+}
+
+// The change that an item comes to, where what it says is built.
+fn built(item: RefItem) -> Option<Change>
+    ensures { result ≡ built item }
+{
+    match item {
+        RefItem::Plain(change) => Some(change),
+        RefItem::PutPolicy(put) => built_policy(put),
+        _ => None,
+    }
+}
+
+fn built_policy(put: RefPolicy) -> Option<Change>
+    ensures { result ≡ built_policy put }
+{
+    if has_references(&put) {
+        None
+    } else {
+        Some(Change::Put(Object::Policy(put.policy)))
+    }
+}
+
+fn has_references(put: &RefPolicy) -> bool
+    ensures { result ≡ has_references put.now }
+{
+    !is_empty(&put.applied_refs) || !are_empty(put.rule_refs.as_slice())
+}
+
+fn are_empty(lists: &[List<Text>]) -> bool
+    ensures { result ≡ list_all is_empty lists.now }
+{
+    lists.iter().all(|names| is_empty(names))
+}
+
+fn is_empty(names: &List<Text>) -> bool
+    ensures { result ≡ is_empty names.now }
+{
+    matches!(names.as_slice(), [])
 }

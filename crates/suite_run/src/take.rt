@@ -38,6 +38,7 @@ fn take_item(
 {
     match item {
         Item::Objects(changes) => block_of(alloc, number, &world.change(changes.as_slice())?),
+        Item::Ignored(kind) => block_of(alloc, number, &LineOutcome::Ignored(kind)),
         Item::Ask { node, question } => block_of(alloc, number, &world.answer(&node, &question)),
         Item::Blank => block_of(alloc, number, &LineOutcome::Silent),
         Item::Refused(refusal) => block_of(alloc, number, &LineOutcome::Refused(refusal)),

@@ -4,6 +4,7 @@ use cl_types::{List, NoMemory, Text};
 use std::alloc::{AllocError, Global};
 use std::process::Abort;
 
+mod objects;
 mod rows;
 
 // What a run over files and sinks in memory came to.
@@ -33,7 +34,7 @@ pub(crate) const NONE: Faults<'static> = Faults {
 // Two lines that are values of JSON and no objects.
 const LINES: &[u8] = b"1\n2\n";
 
-const BLOCKS: &[u8] = b"1 refused NotBuilt\n2 refused NotBuilt\n";
+const BLOCKS: &[u8] = b"1 refused BadShape .\n2 refused BadShape .\n";
 
 fn text(alloc: Global, bytes: &[u8]) -> Result<Text, AllocError> {
     Ok(Text::of(bytes.to_vec(alloc)?))
@@ -131,7 +132,7 @@ fn ends(rt: &impl Abort, alloc: Global, faults: Faults, status: u8, count: usize
 fn faults_of_files_and_sinks(rt: HostRuntime) {
     let unopened: &[u8] = b"antrea: cannot open F\n";
     let unreadable: &[u8] = b"antrea: cannot read F\n";
-    ends(&rt, rt.alloc(), NONE, 1, 38, b"");
+    ends(&rt, rt.alloc(), NONE, 1, 42, b"");
     ends(
         &rt,
         rt.alloc(),
@@ -169,7 +170,7 @@ fn faults_of_files_and_sinks(rt: HostRuntime) {
         &unopened[..20],
     );
     // A read fails after so many bytes: the blocks of the lines that are whole by then are written.
-    for (place, count) in [0, 0, 19, 19, 38].into_iter().enumerate() {
+    for (place, count) in [0, 0, 21, 21, 42].into_iter().enumerate() {
         let faults = Faults {
             file_at: Some(place as u64),
             ..NONE
@@ -177,7 +178,7 @@ fn faults_of_files_and_sinks(rt: HostRuntime) {
         ends(&rt, rt.alloc(), faults, 4, count, unreadable);
     }
     // Each write of one byte fails.
-    for call in 1..39 {
+    for call in 1..43 {
         ends(
             &rt,
             rt.alloc(),

@@ -4,7 +4,7 @@ ghost use Rattle.std.specs.List.{list_any};
 ghost use Rattle.cl_types.specs.Text.{text_eq};
 ghost use Rattle.cluster_objects.specs.Apply.{makes_difference};
 ghost use Rattle.cluster_objects.specs.Changes.{after, is_node};
-ghost use Rattle.cluster_objects.specs.Node.{NodeData};
+ghost use Rattle.cluster_types.specs.Node.{NodeData};
 ghost use Rattle.suite_run.specs.Shown.{outcome_of, world_of, ComesTo, IsTold};
 ghost use Rattle.suite_run.specs.World.{first_world, is_listed, answer, step_of_changes, differs};
 
@@ -29,6 +29,8 @@ pub(crate) enum LineOutcome<'c> {
     /// How many nodes there are.
     Nodes(u64),
     Unchanged,
+    /// An object of this kind isn't looked at.
+    Ignored(Text),
     Refused(Refusal),
     /// The revision, and the policies' verdict.
     Controller(u64, Judged<'c>),

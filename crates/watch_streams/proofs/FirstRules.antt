@@ -9,12 +9,12 @@ use Rattle.std.proofs.lemmas.Cmp.{upto}
 use Rattle.cl_types.specs.declared.keys.RuleKey.{RuleKey}
 use Rattle.cl_types.specs.Judgement.{Judgement}
 use Rattle.cl_types.specs.RuleOrder.{policy_order, rule_order, rule_order_total}
-use Rattle.cluster_objects.specs.declared.policy.Rule.{Rule}
-use Rattle.cluster_objects.specs.Evaluation.{rule_key, rule_action}
-use Rattle.cluster_objects.specs.declared.steps.Stage.{Stage}
-use Rattle.cluster_objects.specs.declared.steps.Stage.TheVariants.{Native, Kubernetes, Baseline}
-use Rattle.cluster_objects.specs.StepsLaws.{not_before}
-use Rattle.cluster_objects.specs.Steps.{earlier, first, decided_first, allowed_first, allowed_by_default, verdict_of}
+use Rattle.cluster_types.specs.declared.policy.Rule.{Rule}
+use Rattle.cluster_types.specs.Evaluation.{rule_key, rule_action}
+use Rattle.cluster_types.specs.declared.steps.Stage.{Stage}
+use Rattle.cluster_types.specs.declared.steps.Stage.TheVariants.{Native, Kubernetes, Baseline}
+use Rattle.cluster_types.specs.StepsLaws.{not_before}
+use Rattle.cluster_types.specs.Steps.{earlier, first, decided_first, allowed_first, allowed_by_default, verdict_of}
 use Rattle.watch_streams.specs.declared.net.NetRule.{NetRule}
 use Rattle.watch_streams.specs.HeldEvaluation.{net_rule_key, net_rule_action}
 use Rattle.watch_streams.specs.Projection.{net_rule}

@@ -3,11 +3,11 @@ use Rattle.std.proofs.Common.{List, [], ◌∷◌, Bool, true, false, ◌&&◌, 
 use Rattle.std.specs.List.{AllByRecursion, flat_map}
 use Rattle.label_select.specs.Canonical.{IsSelection}
 use Rattle.label_select.specs.Group.{IsGroup}
-use Rattle.cluster_objects.specs.declared.policy.Peer.{Peer}
-use Rattle.cluster_objects.specs.declared.policy.Peer.TheVariants as peer
-use Rattle.cluster_objects.specs.declared.policy.Rule.{Rule}
-use Rattle.cluster_objects.specs.Policy.{PolicyData}
-use Rattle.watch_streams.specs.Laws.{IsWholePeer, AreWholePeers, IsWholePolicy}
+use Rattle.cluster_types.specs.declared.policy.Peer.{Peer}
+use Rattle.cluster_types.specs.declared.policy.Peer.TheVariants as peer
+use Rattle.cluster_types.specs.declared.policy.Rule.{Rule}
+use Rattle.cluster_types.specs.Policy.{PolicyData}
+use Rattle.cluster_types.specs.Whole.{IsWholePeer, AreWholePeers, IsWholePolicy}
 use Rattle.watch_streams.specs.Projection.{all_pods, is_egress, has_names, peer_groups, policy_groups, rule_groups}
 use Rattle.watch_streams.proofs.OneOfAll.{all_flat_map}
 use Rattle.cl_types.specs.ListLaws.{all_weaker}

@@ -11,7 +11,7 @@ use Rattle.cl_types.specs.Ascending.{found, put}
 use Rattle.cl_types.specs.AscendingLaws.{all_sorted, found_put}
 use Rattle.label_select.specs.Group.{Group, IsGroup}
 use Rattle.label_select.specs.Written.{group_text}
-use Rattle.cluster_objects.specs.Pod.{PodData}
+use Rattle.cluster_types.specs.Pod.{PodData}
 use Rattle.watch_streams.specs.declared.message.StreamObject.{StreamObject}
 use Rattle.watch_streams.specs.HeldEvaluation.{held_group, group_in, some_member, held_member, is_held}
 use Rattle.cl_types.specs.Text.{text_order}

@@ -6,13 +6,13 @@ use Rattle.cl_types.specs.declared.addr.Addr.{Addr}
 use Rattle.cl_types.specs.Addr.{addr_order}
 use Rattle.cl_types.specs.Text.{text_eq}
 use Rattle.label_select.specs.Group.{Group, group_has}
-use Rattle.cluster_objects.specs.Pod.{has_address}
-use Rattle.cluster_objects.specs.Evaluation.{pod_on}
-use Rattle.cluster_objects.specs.Pod.{counts}
-use Rattle.cluster_objects.specs.Groups.{in_group, ns_labels}
-use Rattle.cluster_objects.specs.Cluster.{AreApart, AllApart}
-use Rattle.cluster_objects.specs.Pod.{PodData}
-use Rattle.cluster_objects.specs.Cluster.{ClusterData}
+use Rattle.cluster_types.specs.Pod.{has_address}
+use Rattle.cluster_types.specs.Evaluation.{pod_on}
+use Rattle.cluster_types.specs.Pod.{counts}
+use Rattle.cluster_types.specs.Groups.{in_group, ns_labels}
+use Rattle.cluster_types.specs.Cluster.{AreApart, AllApart}
+use Rattle.cluster_types.specs.Pod.{PodData}
+use Rattle.cluster_types.specs.Cluster.{ClusterData}
 use Rattle.watch_streams.specs.declared.message.StreamObject.{StreamObject}
 use Rattle.watch_streams.specs.HeldEvaluation.{held_member}
 use Rattle.watch_streams.specs.Net.{MemberData}

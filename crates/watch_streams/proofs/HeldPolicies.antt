@@ -9,15 +9,15 @@ use Rattle.cl_types.specs.Ascending.{Ascends, put}
 use Rattle.cl_types.specs.PolicyName.{PolicyName, IsPolicyName}
 use Rattle.cl_types.specs.RuleOrder.{policy_order, policy_order_total}
 use Rattle.cl_types.specs.Written.{policy_text}
-use Rattle.cluster_objects.specs.Egress.{EgressData}
-use Rattle.cluster_objects.specs.declared.policy.Rule.{Rule}
-use Rattle.cluster_objects.specs.Policy.{PolicyData, IsRuleOf}
-use Rattle.cluster_objects.specs.Steps.{first}
+use Rattle.cluster_types.specs.Egress.{EgressData}
+use Rattle.cluster_types.specs.declared.policy.Rule.{Rule}
+use Rattle.cluster_types.specs.Policy.{PolicyData, IsRuleOf}
+use Rattle.cluster_types.specs.Steps.{first}
 use Rattle.watch_streams.specs.declared.message.StreamObject.{StreamObject}
 use Rattle.watch_streams.specs.declared.message.StreamObject.TheVariants as object
 use Rattle.watch_streams.specs.declared.net.NetRule.{NetRule}
 use Rattle.watch_streams.specs.HeldEvaluation.{policy_in, net_rule_key}
-use Rattle.watch_streams.specs.Laws.{IsWholePolicy}
+use Rattle.cluster_types.specs.Whole.{IsWholePolicy}
 use Rattle.watch_streams.specs.Names.{at_text, by_name}
 use Rattle.watch_streams.specs.Net.{NetPolicyData}
 use Rattle.watch_streams.specs.Projection.{net_rule, net_policy, net_egress}

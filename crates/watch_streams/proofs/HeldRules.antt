@@ -12,19 +12,19 @@ use Rattle.cl_types.specs.Dir.{dir_eq}
 use Rattle.cl_types.specs.Proto.{proto_eq}
 use Rattle.cl_types.specs.Service.{PortRange}
 use Rattle.label_select.specs.Group.{Group}
-use Rattle.cluster_objects.specs.declared.policy.Peer.{Peer}
-use Rattle.cluster_objects.specs.declared.policy.Peer.TheVariants as peer
-use Rattle.cluster_objects.specs.declared.policy.Rule.{Rule}
-use Rattle.cluster_objects.specs.Pod.{has_address}
-use Rattle.cluster_objects.specs.Evaluation.{block_contains, group_contains, peer_contains, peers_contain, service_matches, is_port, defines, peer_contains_pod, peers_contain_pod, name_matches, services_match, applies, rule_matches, pod_on}
-use Rattle.cluster_objects.specs.Pod.{counts}
-use Rattle.cluster_objects.specs.Groups.{in_group}
-use Rattle.cluster_objects.specs.Cluster.{AllApart}
-use Rattle.cluster_objects.specs.Pod.{PodData}
-use Rattle.cluster_objects.specs.Policy.{PolicyData}
-use Rattle.cluster_objects.specs.Cluster.{ClusterData}
+use Rattle.cluster_types.specs.declared.policy.Peer.{Peer}
+use Rattle.cluster_types.specs.declared.policy.Peer.TheVariants as peer
+use Rattle.cluster_types.specs.declared.policy.Rule.{Rule}
+use Rattle.cluster_types.specs.Pod.{has_address}
+use Rattle.cluster_types.specs.Evaluation.{block_contains, group_contains, peer_contains, peers_contain, service_matches, is_port, defines, peer_contains_pod, peers_contain_pod, name_matches, services_match, applies, rule_matches, pod_on}
+use Rattle.cluster_types.specs.Pod.{counts}
+use Rattle.cluster_types.specs.Groups.{in_group}
+use Rattle.cluster_types.specs.Cluster.{AllApart}
+use Rattle.cluster_types.specs.Pod.{PodData}
+use Rattle.cluster_types.specs.Policy.{PolicyData}
+use Rattle.cluster_types.specs.Cluster.{ClusterData}
 use Rattle.watch_streams.specs.HeldEvaluation.{HeldMaps, held_member, is_held, is_at, groups_of, resolves, is_complete, held_peers_contain, destination, member_defines, held_name_matches, held_services_match, held_rule_matches}
-use Rattle.watch_streams.specs.Laws.{AreWholePeers}
+use Rattle.cluster_types.specs.Whole.{AreWholePeers}
 use Rattle.watch_streams.specs.Projection.{groups_by_text, peer_groups, peer_blocks, net_peers, net_rule, net_policy, members_on, group_members, all_pods, is_egress, has_names, rule_groups}
 use Rattle.watch_streams.proofs.GroupForms.{groups_are}
 use Rattle.watch_streams.proofs.HeldGroups.{GroupTextsDiffer, HeldAs, held_is_held, list_any-groups_by_text, all_groups_by_text}

@@ -9,6 +9,7 @@ pub mod HeldRules
 pub mod MemberOrder
 pub mod Members
 pub mod NamedOnce
+pub mod NetPolicies
 pub mod OneOfAll
 pub mod OneRevision
 pub mod Projections

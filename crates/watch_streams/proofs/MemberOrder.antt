@@ -12,7 +12,7 @@ use Rattle.cl_types.specs.declared.service.Proto.{Proto}
 use Rattle.cl_types.specs.declared.service.Proto.TheVariants.{Tcp, Udp, Sctp, Icmp}
 use Rattle.cl_types.specs.OrderLaws.{both_equal, text_order_exact}
 use Rattle.cl_types.specs.Addr.{addr_order, addr_order_total}
-use Rattle.cluster_objects.specs.Pod.{port_order, proto_place}
+use Rattle.cluster_types.specs.Pod.{port_order, proto_place}
 use Rattle.watch_streams.specs.Net.{MemberData, member_order, numbered_port_order}
 
 proto_exact : (a b : Proto) → proto_place a ≡ proto_place b → a ≡ b

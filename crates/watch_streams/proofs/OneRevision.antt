@@ -12,19 +12,20 @@ use Rattle.cl_types.specs.Text.{text_eq}
 use Rattle.cl_types.specs.Dir.{dir_eq}
 use Rattle.cl_types.specs.RuleOrder.{policy_order}
 use Rattle.label_select.specs.Group.{Group, IsGroup}
-use Rattle.cluster_objects.specs.Egress.{EgressData}
-use Rattle.cluster_objects.specs.declared.policy.Rule.{Rule}
-use Rattle.cluster_objects.specs.Pod.{has_address}
-use Rattle.cluster_objects.specs.Evaluation.{peers_contain, services_match, applies, rule_matches, rule_key, rule_action, side_of, pod_on}
-use Rattle.cluster_objects.specs.Pod.{counts}
-use Rattle.cluster_objects.specs.Pod.{PodData}
-use Rattle.cluster_objects.specs.Policy.{PolicyData, isolates}
-use Rattle.cluster_objects.specs.Cluster.{ClusterData}
-use Rattle.cluster_objects.specs.declared.steps.Stage.{Stage}
-use Rattle.cluster_objects.specs.Steps.{first, in_stage, is_kube, allowed_by_default, verdict_of}
+use Rattle.cluster_types.specs.Egress.{EgressData}
+use Rattle.cluster_types.specs.declared.policy.Rule.{Rule}
+use Rattle.cluster_types.specs.Pod.{has_address}
+use Rattle.cluster_types.specs.Evaluation.{peers_contain, services_match, applies, rule_matches, rule_key, rule_action, side_of, pod_on}
+use Rattle.cluster_types.specs.Pod.{counts}
+use Rattle.cluster_types.specs.Pod.{PodData}
+use Rattle.cluster_types.specs.Policy.{PolicyData, isolates}
+use Rattle.cluster_types.specs.Cluster.{ClusterData, IsCluster}
+use Rattle.cluster_types.specs.declared.steps.Stage.{Stage}
+use Rattle.cluster_types.specs.Steps.{first, in_stage, is_kube, allowed_by_default, verdict_of}
 use Rattle.watch_streams.specs.declared.net.NetRule.{NetRule}
 use Rattle.watch_streams.specs.HeldEvaluation.{HeldMaps, held_member, is_at, held_rule_matches, held_rules_with, held_isolated, net_rule_key}
-use Rattle.watch_streams.specs.Laws.{AreWholePeers, IsWholePolicy, IsWholeCluster, held_of, OneRevisionIsThePoliciesVerdict}
+use Rattle.cluster_types.specs.Whole.{AreWholePeers, IsWholePolicy}
+use Rattle.watch_streams.specs.Laws.{held_of, OneRevisionIsThePoliciesVerdict}
 use Rattle.watch_streams.specs.Net.{NetPolicyData, net_isolates}
 use Rattle.watch_streams.specs.Projection.{net_rule, net_policy, members_on, group_members, is_on, policy_is_on, egress_is_on, policies_on, egresses_on, rule_groups, policy_groups}
 use Rattle.watch_streams.proofs.FirstRules.{verdict_told}
@@ -86,12 +87,12 @@ record IsOnNode (c : ClusterData) (node : List ℕ) (p : PolicyData) : Type 0 wh
   peers : AllByRecursion (λ (r : Rule). PeersAreHeld c (held_of c node) r r.peers) p.rules
 
 module _ (groups_differ : GroupTextsDiffer) (policies_differ : PolicyTextsDiffer) (exact : (a b : Addr) → addr_order a b ≡ Equal → a ≡ b)
-    (c : ClusterData) (node : List ℕ) (q : Question) (whole : IsWholeCluster c) where
+    (c : ClusterData) (node : List ℕ) (q : Question) (whole : IsCluster c) where
   abbrev held : HeldMaps
   held = held_of c node
 
   whole_on : AllByRecursion IsWholePolicy (policies_on c node)
-  whole_on = all_filter IsWholePolicy (policy_is_on c node) c.policies whole.policies
+  whole_on = all_filter IsWholePolicy (policy_is_on c node) c.policies whole.parts.policies
 
   -- the groups to which a policy on the node applies are held
   applied_on : AllByRecursion (λ p. policy_is_on c node p ≡ true → AppliedAreHeld c node held p) c.policies
@@ -109,7 +110,7 @@ module _ (groups_differ : GroupTextsDiffer) (policies_differ : PolicyTextsDiffer
       policies_are = all_flat_map IsGroup (λ (p : PolicyData). p.applied) (policies_on c node) (all_weaker IsWholePolicy (λ p. AllByRecursion IsGroup p.applied) (λ p is. is.applied) (policies_on c node) whole_on)
 
       egresses_are : AllByRecursion IsGroup of_egresses
-      egresses_are = all_map IsGroup (λ (e : EgressData). e.applied) (egresses_on c node) (all_filter (λ (e : EgressData). IsGroup e.applied) (egress_is_on c node) c.egresses whole.egresses)
+      egresses_are = all_map IsGroup (λ (e : EgressData). e.applied) (egresses_on c node) (all_filter (λ (e : EgressData). IsGroup e.applied) (egress_is_on c node) c.egresses whole.parts.egresses)
 
   -- the groups of the peers of a policy on the node are held
   peers_on : AllByRecursion (λ p. policy_is_on c node p ≡ true → AllByRecursion (HeldAs (group_members c) held.addresses) (policy_groups p)) c.policies
@@ -118,7 +119,7 @@ module _ (groups_differ : GroupTextsDiffer) (policies_differ : PolicyTextsDiffer
       (held_all groups_differ (group_members c) (flat_map policy_groups (policies_on c node)) (all_flat_map IsGroup policy_groups (policies_on c node) (all_weaker IsWholePolicy _ policy_forms (policies_on c node) whole_on)))
 
   all_on : AllByRecursion (λ p. policy_is_on c node p ≡ true → IsOnNode c node p) c.policies
-  all_on = all_of_both IsWholePolicy Both (λ p. policy_is_on c node p ≡ true → IsOnNode c node p) known c.policies whole.policies (all_of_both _ _ Both (λ p applied peers. (applied, peers)) c.policies applied_on peers_on)
+  all_on = all_of_both IsWholePolicy Both (λ p. policy_is_on c node p ≡ true → IsOnNode c node p) known c.policies whole.parts.policies (all_of_both _ _ Both (λ p applied peers. (applied, peers)) c.policies applied_on peers_on)
     where
       Both : PolicyData → Type 0
       Both p = (policy_is_on c node p ≡ true → AppliedAreHeld c node held p) × (policy_is_on c node p ≡ true → AllByRecursion (HeldAs (group_members c) held.addresses) (policy_groups p))
@@ -153,7 +154,7 @@ module _ (groups_differ : GroupTextsDiffer) (policies_differ : PolicyTextsDiffer
       ∙ ap (map net_rule) (filter-all (λ r. told stage p (net_rule r)) (asked c q own stage p) p.rules (all_of_both (λ (r : Rule). AreWholePeers r.peers) (λ (r : Rule). PeersAreHeld c held r r.peers) (λ r. told stage p (net_rule r) ≡ asked c q own stage p r) one p.rules is.whole.peers is.peers))
     where
       one : (r : Rule) → AreWholePeers r.peers → PeersAreHeld c held r r.peers → told stage p (net_rule r) ≡ asked c q own stage p r
-      one r whole_r held_r = ap (λ b. in_stage stage p.key.kind r.key && b) (rule_same groups_differ exact c node held whole.cluster.apart p is.applied r q whole_r held_r)
+      one r whole_r held_r = ap (λ b. in_stage stage p.key.kind r.key && b) (rule_same groups_differ exact c node held whole.apart p is.applied r q whole_r held_r)
 
   rules_of : (stage : Stage) (p : PolicyData) → (policy_is_on c node p ≡ true → IsOnNode c node p)
       → cond (policy_is_on c node p) (filter (told stage p) (map net_rule p.rules)) [] ≡ map net_rule (filter (asked c q own stage p) p.rules)
@@ -168,13 +169,13 @@ module _ (groups_differ : GroupTextsDiffer) (policies_differ : PolicyTextsDiffer
   isolated_of p known = by_cases (policy_is_on c node p) refl
     where
       by_cases : (b : Bool) → policy_is_on c node p ≡ b → (b && told_isolates (net_policy p)) ≡ ((is_kube p.key.kind && isolates p q.dir) && own_applies c own p)
-      by_cases true on = (λ i. (is_kube p.key.kind && isolates_same p q.dir i) && applies_same groups_differ exact c node held whole.cluster.apart p (known on).applied q i)
+      by_cases true on = (λ i. (is_kube p.key.kind && isolates_same p q.dir i) && applies_same groups_differ exact c node held whole.apart p (known on).applied q i)
       by_cases false off = sym (ap (λ b. (is_kube p.key.kind && isolates p q.dir) && b) (off_node own refl p off) ∙ and_false (is_kube p.key.kind && isolates p q.dir))
 
   -- ---- what is asked of all policies
 
   ascend_on : Ascends (λ (p : PolicyData). p.key) policy_order (policies_on c node)
-  ascend_on = ascends_filter (λ (p : PolicyData). p.key) policy_order_total (policy_is_on c node) c.policies whole.cluster.policies_ascend
+  ascend_on = ascends_filter (λ (p : PolicyData). p.key) policy_order_total (policy_is_on c node) c.policies whole.policies_ascend
 
   first_same : (stage : Stage) → first net_rule_key (held_rules_with held q stage) ≡ first net_rule_key (map net_rule (rules_at c q own stage))
   first_same stage =

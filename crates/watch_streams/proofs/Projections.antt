@@ -1,19 +1,20 @@
 -- What belongs on a stream is a map of it, and a map taken as a snapshot is that map.
 use Rattle.std.proofs.Common.{ℕ, ◌≡◌, List, ◌++◌, true, ◌&&◌, filter, map, refl, ap, ◌∙◌}
-use Rattle.cluster_objects.specs.Cluster.{ClusterData}
+use Rattle.cluster_types.specs.Cluster.{ClusterData, IsCluster}
 use Rattle.std.specs.List.{AllByRecursion, flat_map}
 use Rattle.cl_types.specs.declared.stream.Stream.{Stream}
 use Rattle.cl_types.specs.declared.stream.Stream.TheVariants.{Policies, Addresses, Applied}
 use Rattle.cl_types.specs.Ascending.{Ascends}
 use Rattle.label_select.specs.Group.{Group, IsGroup}
-use Rattle.cluster_objects.specs.Egress.{EgressData}
-use Rattle.cluster_objects.specs.Groups.{in_group}
-use Rattle.cluster_objects.specs.Pod.{PodData}
-use Rattle.cluster_objects.specs.Policy.{PolicyData}
+use Rattle.cluster_types.specs.Egress.{EgressData}
+use Rattle.cluster_types.specs.Groups.{in_group}
+use Rattle.cluster_types.specs.Pod.{PodData}
+use Rattle.cluster_types.specs.Policy.{PolicyData}
 use Rattle.watch_streams.specs.declared.message.StreamObject.{StreamObject}
 use Rattle.watch_streams.specs.declared.message.StreamObject.TheVariants as object
 use Rattle.watch_streams.specs.Difference.{belongs}
-use Rattle.watch_streams.specs.Laws.{HasAscendingMembers, HasGroupForm, IsMap, IsWholePolicy, SnapshotsAreTheMap, ProjectionsAreMaps, IsWholeCluster}
+use Rattle.cluster_types.specs.Whole.{IsWholePolicy}
+use Rattle.watch_streams.specs.Laws.{HasAscendingMembers, HasGroupForm, IsMap, SnapshotsAreTheMap, ProjectionsAreMaps}
 use Rattle.watch_streams.specs.Names.{by_name}
 use Rattle.watch_streams.specs.Net.{MemberData, member_order}
 use Rattle.watch_streams.specs.Projection.{egress_is_on, egresses_on, group_members, group_object, members_on, net_egress, net_policy, on_addresses, on_applied, on_policies, policies_on, policy_groups, policy_is_on, pod_members, is_on}
@@ -53,8 +54,8 @@ policies_are_parts ps = all_map (IsPart Policies) (λ p. object.Policy (net_poli
 egresses_are_parts : (es : List EgressData) → AllByRecursion (IsPart Policies) (map (λ e. object.Egress (net_egress e)) es)
 egresses_are_parts es = all_map (IsPart Policies) (λ e. object.Egress (net_egress e)) es (all_of (λ e. IsPart Policies (object.Egress (net_egress e))) (λ e. (refl, tt, tt)) es)
 
-whole_policies_on : (c : ClusterData) (node : List ℕ) → IsWholeCluster c → AllByRecursion IsWholePolicy (policies_on c node)
-whole_policies_on c node h = all_filter IsWholePolicy (policy_is_on c node) c.policies h.policies
+whole_policies_on : (c : ClusterData) (node : List ℕ) → IsCluster c → AllByRecursion IsWholePolicy (policies_on c node)
+whole_policies_on c node h = all_filter IsWholePolicy (policy_is_on c node) c.policies h.parts.policies
 
 -- all groups that these policies name
 groups_of_all : (f : PolicyData → List Group) → ((p : PolicyData) → IsWholePolicy p → AllByRecursion IsGroup (f p)) → (ps : List PolicyData) → AllByRecursion IsWholePolicy ps
@@ -76,4 +77,4 @@ projections_are c Applied node h =
     (flat_map (λ (p : PolicyData). p.applied) (policies_on c node) ++ map (λ (e : EgressData). e.applied) (egresses_on c node))
     (all_append IsGroup (flat_map (λ (p : PolicyData). p.applied) (policies_on c node)) (map (λ (e : EgressData). e.applied) (egresses_on c node))
     (groups_of_all (λ (p : PolicyData). p.applied) (λ p w. w.applied) (policies_on c node) (whole_policies_on c node h))
-    (all_map IsGroup (λ (e : EgressData). e.applied) (egresses_on c node) (all_filter (λ (e : EgressData). IsGroup e.applied) (egress_is_on c node) c.egresses h.egresses))))
+    (all_map IsGroup (λ (e : EgressData). e.applied) (egresses_on c node) (all_filter (λ (e : EgressData). IsGroup e.applied) (egress_is_on c node) c.egresses h.parts.egresses))))

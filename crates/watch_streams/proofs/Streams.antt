@@ -1,30 +1,15 @@
 -- The messages of a stream lead from the map at one revision to that at a later one.
-use Rattle.std.proofs.Common.{◌≡◌, ℕ, zero, suc, ◌≤◌, List, [], ◌∷◌, get_or, refl, sym, ap, ◌∙◌, arith}
+use Rattle.std.proofs.Common.{◌≡◌, ℕ, zero, suc, ◌≤◌, List, [], ◌∷◌, get_or, sym, ap, ◌∙◌, arith}
 use Rattle.std.specs.List.{AllByRecursion}
 use Rattle.cl_types.specs.declared.stream.Stream.{Stream}
-use Rattle.cluster_objects.specs.Cluster.{no_objects}
+use Rattle.cluster_types.specs.Cluster.{no_objects, IsCluster}
+use Rattle.cluster_types.specs.ClusterLaws.{no_objects_are}
 use Rattle.watch_streams.specs.declared.message.Msg.{Msg}
 use Rattle.watch_streams.specs.declared.message.Msg.TheVariants.{Delta, Snapshot}
 use Rattle.watch_streams.specs.declared.message.StreamObject.{StreamObject}
 use Rattle.watch_streams.specs.Difference.{after_changes, of_snapshot}
-use Rattle.watch_streams.specs.Laws.{IsMap, IsWholeCluster, DifferencesLeadToTheNewMap, SnapshotsAreTheMap, ProjectionsAreMaps, StreamsLeadOn}
+use Rattle.watch_streams.specs.Laws.{IsMap, DifferencesLeadToTheNewMap, SnapshotsAreTheMap, ProjectionsAreMaps, StreamsLeadOn}
 use Rattle.watch_streams.specs.Stream.{Reads, after_messages, map_at}
-
-nothing_is_whole : IsWholeCluster no_objects
-nothing_is_whole = record {
-  cluster = record {
-    nodes_ascend = tt;
-    namespaces_ascend = tt;
-    pods_ascend = tt;
-    tiers_ascend = ((refl, (refl, (refl, (refl, (refl, tt))))), ((refl, (refl, (refl, (refl, tt)))), ((refl, (refl, (refl, tt))), ((refl, (refl, tt)), ((refl, tt), (tt, tt))))));
-    policies_ascend = tt;
-    egresses_ascend = tt;
-    apart = tt;
-    early = λ e. record { namespaces = refl; pods = refl; policies = refl; egresses = refl };
-  };
-  policies = tt;
-  egresses = tt;
-}
 
 -- what holds of all items, and of the one that stands in where there is none
 holds_at : {T : Type 0} (P : T → Type 0) (xs : List T) (i : ℕ) (d : T) → AllByRecursion P xs → P d → P (get_or xs i d)
@@ -47,6 +32,6 @@ module _ (differences : DifferencesLeadToTheNewMap) (snapshots : SnapshotsAreThe
 pub streams_lead : DifferencesLeadToTheNewMap → SnapshotsAreTheMap → ProjectionsAreMaps → StreamsLeadOn
 streams_lead differences snapshots projections history s node live from messages whole stream =
     let lead = reads_lead differences snapshots s (map_at history s node)
-    (λ n. projections (get_or history n no_objects) s node (holds_at IsWholeCluster history n no_objects whole nothing_is_whole))
+    (λ n. projections (get_or history n no_objects) s node (holds_at IsCluster history n no_objects whole no_objects_are))
     _ from messages stream.to stream.reads in
     record { leads = lead.0; later = lead.1 }

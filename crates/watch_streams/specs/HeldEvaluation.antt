@@ -17,9 +17,9 @@ use Rattle.cl_types.specs.Judgement.{Judgement}
 use Rattle.cl_types.specs.Service.{PortRange}
 use Rattle.label_select.specs.Group.{Group}
 use Rattle.label_select.specs.Written.{group_text}
-use Rattle.cluster_objects.specs.Evaluation.{block_contains, service_matches, is_port}
-use Rattle.cluster_objects.specs.declared.steps.Stage.{Stage}
-use Rattle.cluster_objects.specs.Steps.{in_stage, is_kube, verdict_of}
+use Rattle.cluster_types.specs.Evaluation.{block_contains, service_matches, is_port}
+use Rattle.cluster_types.specs.declared.steps.Stage.{Stage}
+use Rattle.cluster_types.specs.Steps.{in_stage, is_kube, verdict_of}
 use Rattle.watch_streams.specs.declared.message.StreamObject.{StreamObject}
 use Rattle.watch_streams.specs.declared.message.StreamObject.TheVariants as object
 use Rattle.watch_streams.specs.declared.net.NetPeers.{NetPeers}

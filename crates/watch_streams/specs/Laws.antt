@@ -1,51 +1,24 @@
 -- What holds of all clusters (this project's own).
-use Rattle.std.specs.Prelude.{◌≡◌, ℕ, ◌≤◌, List, Option, Some, None, Bool, true, map}
+use Rattle.std.specs.Prelude.{◌≡◌, ◌≢◌, ℕ, ◌≤◌, List, [], Bool, true, map}
 use Rattle.std.specs.List.{AllByRecursion}
 use Rattle.cl_types.specs.declared.question.Question.{Question}
 use Rattle.cl_types.specs.declared.stream.Stream.{Stream}
 use Rattle.cl_types.specs.declared.stream.Stream.TheVariants.{Policies, Addresses, Applied}
 use Rattle.cl_types.specs.Ascending.{Ascends}
-use Rattle.cl_types.specs.PolicyName.{IsPolicyName}
 use Rattle.label_select.specs.Group.{IsGroup}
-use Rattle.cluster_objects.specs.Egress.{EgressData}
-use Rattle.cluster_objects.specs.declared.policy.Peer.{Peer}
-use Rattle.cluster_objects.specs.declared.policy.Peer.TheVariants as peer
-use Rattle.cluster_objects.specs.declared.policy.Rule.{Rule}
-use Rattle.cluster_objects.specs.Evaluation.{side}
-use Rattle.cluster_objects.specs.Cluster.{IsCluster}
-use Rattle.cluster_objects.specs.Policy.{PolicyData, IsPolicy}
-use Rattle.cluster_objects.specs.Cluster.{ClusterData}
+use Rattle.cluster_types.specs.Evaluation.{side}
+use Rattle.cluster_types.specs.Cluster.{IsCluster}
+use Rattle.cluster_types.specs.Cluster.{ClusterData}
+use Rattle.cluster_types.specs.Policy.{PolicyData}
 use Rattle.watch_streams.specs.declared.message.Msg.{Msg}
 use Rattle.watch_streams.specs.declared.message.StreamObject.{StreamObject}
 use Rattle.watch_streams.specs.declared.message.StreamObject.TheVariants as object
 use Rattle.watch_streams.specs.Difference.{belongs, difference, after_changes, of_snapshot}
 use Rattle.watch_streams.specs.HeldEvaluation.{HeldMaps, held_side}
 use Rattle.watch_streams.specs.Names.{AreDistinct, AscendByName, changed_name, name_of}
-use Rattle.watch_streams.specs.Net.{member_order}
-use Rattle.watch_streams.specs.Projection.{projection}
+use Rattle.watch_streams.specs.Net.{IsNetPolicy, member_order}
+use Rattle.watch_streams.specs.Projection.{net_policy, policies_on, projection}
 use Rattle.watch_streams.specs.Stream.{after_messages, map_at, IsStream}
-
--- ---- what the types of a cluster's parts keep
-
-abbrev pub IsWholePeer : Peer → Type 0
-IsWholePeer (peer.Group g) = IsGroup g
-IsWholePeer (peer.Block b) = Unit {0}
-IsWholePeer peer.Never = Unit {0}
-
-abbrev pub AreWholePeers : Option (List Peer) → Type 0
-AreWholePeers None = Unit {0}
-AreWholePeers (Some peers) = AllByRecursion IsWholePeer peers
-
-pub record IsWholePolicy (p : PolicyData) : Type 0 where
-  pub policy : IsPolicy p
-  pub name : IsPolicyName p.key.kind p.key.namespace p.key.name
-  pub applied : AllByRecursion IsGroup p.applied
-  pub peers : AllByRecursion (λ (r : Rule). AreWholePeers r.peers) p.rules
-
-pub record IsWholeCluster (c : ClusterData) : Type 0 where
-  pub cluster : IsCluster c
-  pub policies : AllByRecursion IsWholePolicy c.policies
-  pub egresses : AllByRecursion (λ (e : EgressData). IsGroup e.applied) c.egresses
 
 -- ---- the law of one revision
 
@@ -55,7 +28,7 @@ held_of c node = record { policies = projection c Policies node; addresses = pro
 
 -- its verdict is the policies' own
 abbrev pub OneRevisionIsThePoliciesVerdict : Type 0
-OneRevisionIsThePoliciesVerdict = (c : ClusterData) (node : List ℕ) (q : Question) → IsWholeCluster c → held_side (held_of c node) q ≡ side c node q
+OneRevisionIsThePoliciesVerdict = (c : ClusterData) (node : List ℕ) (q : Question) → IsCluster c → held_side (held_of c node) q ≡ side c node q
 
 -- ---- the law of one message
 
@@ -93,7 +66,17 @@ MapsNameOnce = (objects : List StreamObject) → AscendByName objects → AreDis
 
 -- what belongs on a stream is a map of it
 abbrev pub ProjectionsAreMaps : Type 0
-ProjectionsAreMaps = (c : ClusterData) (s : Stream) (node : List ℕ) → IsWholeCluster c → IsMap s (projection c s node)
+ProjectionsAreMaps = (c : ClusterData) (s : Stream) (node : List ℕ) → IsCluster c → IsMap s (projection c s node)
+
+-- ---- the law of the policies on a stream
+
+-- with groups in place of selectors, a policy of a cluster that applies to some group has what its type keeps
+abbrev pub AppliedPoliciesAreWhole : Type 0
+AppliedPoliciesAreWhole = (c : ClusterData) → IsCluster c → AllByRecursion (λ (p : PolicyData). p.applied ≢ [] → IsNetPolicy (net_policy p)) c.policies
+
+-- so has each policy that concerns a node
+abbrev pub PoliciesOnStreamsAreWhole : Type 0
+PoliciesOnStreamsAreWhole = (c : ClusterData) (node : List ℕ) → IsCluster c → AllByRecursion (λ (p : PolicyData). IsNetPolicy (net_policy p)) (policies_on c node)
 
 -- ---- the law of a stream
 
@@ -105,4 +88,4 @@ pub record LeadsOn (history : List ClusterData) (s : Stream) (node : List ℕ) (
 abbrev pub StreamsLeadOn : Type 0
 StreamsLeadOn =
     (history : List ClusterData) (s : Stream) (node : List ℕ) (live : Bool) (from : ℕ) (messages : List Msg) →
-    AllByRecursion IsWholeCluster history → (stream : IsStream history s node live from messages) → LeadsOn history s node from stream.to messages
+    AllByRecursion IsCluster history → (stream : IsStream history s node live from messages) → LeadsOn history s node from stream.to messages

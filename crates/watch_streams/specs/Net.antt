@@ -16,9 +16,9 @@ use Rattle.cl_types.specs.Ascending.{Ascends, sorted_set}
 use Rattle.cl_types.specs.PolicyName.{PolicyName}
 use Rattle.cl_types.specs.RuleOrder.{rule_order}
 use Rattle.label_select.specs.Group.{Group}
-use Rattle.cluster_objects.specs.Pod.{port_order}
+use Rattle.cluster_types.specs.Pod.{port_order}
 use Rattle.watch_streams.specs.declared.net.NetRule.{NetRule}
-use Rattle.cluster_objects.specs.Tier.{baseline_tier, kube_tier}
+use Rattle.cluster_types.specs.Tier.{baseline_tier, kube_tier}
 
 -- ---- policies
 

@@ -12,17 +12,17 @@ use Rattle.cl_types.specs.Text.{text_eq}
 use Rattle.label_select.specs.declared.group.Scope.TheVariants.{Namespaces}
 use Rattle.label_select.specs.Group.{Group}
 use Rattle.label_select.specs.Written.{group_text}
-use Rattle.cluster_objects.specs.Egress.{EgressData}
-use Rattle.cluster_objects.specs.declared.policy.Block.{Block}
-use Rattle.cluster_objects.specs.declared.policy.Peer.{Peer}
-use Rattle.cluster_objects.specs.declared.policy.Peer.TheVariants as peer
-use Rattle.cluster_objects.specs.declared.policy.Rule.{Rule}
-use Rattle.cluster_objects.specs.Evaluation.{applies}
-use Rattle.cluster_objects.specs.Groups.{in_group}
-use Rattle.cluster_objects.specs.Node.{NodeData}
-use Rattle.cluster_objects.specs.Pod.{PodData}
-use Rattle.cluster_objects.specs.Policy.{PolicyData}
-use Rattle.cluster_objects.specs.Cluster.{ClusterData}
+use Rattle.cluster_types.specs.Egress.{EgressData}
+use Rattle.cluster_types.specs.declared.policy.Block.{Block}
+use Rattle.cluster_types.specs.declared.policy.Peer.{Peer}
+use Rattle.cluster_types.specs.declared.policy.Peer.TheVariants as peer
+use Rattle.cluster_types.specs.declared.policy.Rule.{Rule}
+use Rattle.cluster_types.specs.Evaluation.{applies}
+use Rattle.cluster_types.specs.Groups.{in_group}
+use Rattle.cluster_types.specs.Node.{NodeData}
+use Rattle.cluster_types.specs.Pod.{PodData}
+use Rattle.cluster_types.specs.Policy.{PolicyData}
+use Rattle.cluster_types.specs.Cluster.{ClusterData}
 use Rattle.watch_streams.specs.declared.message.StreamObject.{StreamObject}
 use Rattle.watch_streams.specs.declared.message.StreamObject.TheVariants as object
 use Rattle.watch_streams.specs.declared.net.NetPeers.{NetPeers}

@@ -1,7 +1,7 @@
 -- Which messages may stand on a stream of a node, over the clusters of all revisions (this project's own).
 use Rattle.std.specs.Prelude.{◌≡◌, ℕ, ◌+◌, ◌-◌, ◌≤◌, List, [], ◌∷◌, length, Bool, IsTrue, get_or}
 use Rattle.cl_types.specs.declared.stream.Stream.{Stream}
-use Rattle.cluster_objects.specs.Cluster.{ClusterData, no_objects}
+use Rattle.cluster_types.specs.Cluster.{ClusterData, no_objects}
 use Rattle.watch_streams.specs.declared.message.Msg.{Msg}
 use Rattle.watch_streams.specs.declared.message.Msg.TheVariants.{Delta, Snapshot}
 use Rattle.watch_streams.specs.declared.message.StreamObject.{StreamObject}

@@ -1,5 +1,5 @@
 //! What holds of all clusters and messages, whatever the code.
-ghost use Rattle.watch_streams.specs.Laws.{DifferencesLeadToTheNewMap, OneRevisionIsThePoliciesVerdict, SnapshotsAreTheMap, DifferencesNameOnce, MapsNameOnce, ProjectionsAreMaps, StreamsLeadOn};
+ghost use Rattle.watch_streams.specs.Laws.{AppliedPoliciesAreWhole, DifferencesLeadToTheNewMap, OneRevisionIsThePoliciesVerdict, PoliciesOnStreamsAreWhole, SnapshotsAreTheMap, DifferencesNameOnce, MapsNameOnce, ProjectionsAreMaps, StreamsLeadOn};
 
 /// A message leads an agent's map to the map that it was made of.
 pub fn messages_lead_to_the_new_map()
@@ -19,6 +19,12 @@ pub fn messages_name_once()
 /// What belongs on a stream is a map of it.
 pub fn projections_are_maps()
     ensures { ProjectionsAreMaps }
+{}
+
+/// A policy that goes on a stream has what its type there keeps.
+pub fn policies_on_streams_are_whole()
+    ensures applied { AppliedPoliciesAreWhole }
+    ensures on_streams { PoliciesOnStreamsAreWhole }
 {}
 
 /// The messages of a stream lead from what belongs on it at one revision to what belongs there at another, and

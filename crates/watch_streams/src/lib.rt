@@ -9,7 +9,7 @@ mod queue;
 
 pub use laws::{
     messages_lead_to_the_new_map, messages_name_once, one_revision_is_the_policies_verdict,
-    projections_are_maps, streams_lead_on,
+    policies_on_streams_are_whole, projections_are_maps, streams_lead_on,
 };
 pub use message::{Changes, Msg, Objects, StreamChange, StreamName, StreamObject};
 pub use net::{HeldMember, NetEgress, NetPeers, NetPolicy, NetRule};

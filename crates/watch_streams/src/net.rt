@@ -6,7 +6,7 @@ use cl_types::{
     Action, Addr, Copies, Keyed, List, NamedPort, NoMemory, PolicyKey, PortName, RuleKey, Same,
     Service, Text,
 };
-use cluster_objects::Block;
+use cluster_types::Block;
 use label_select::GroupKey;
 use std::marker::Model;
 
@@ -126,7 +126,7 @@ pub struct HeldMember {
 
 impl Model for HeldMember {
     ghost use Rattle.cl_types.specs.Ascending.{Ascends};
-    ghost use Rattle.cluster_objects.specs.Pod.{port_order};
+    ghost use Rattle.cluster_types.specs.Pod.{port_order};
     ghost use Rattle.watch_streams.specs.Net.{MemberData};
 
     ghost Value = { MemberData };

@@ -3,26 +3,26 @@ ghost use Rattle.std.specs.Prelude.{◌≡◌, ◌≤◌, IfOk, OnErr, None, len
 ghost use Rattle.std.specs.Option.{is_some, option_map_or};
 ghost use Rattle.std.specs.Ordering.{nat_cmp};
 ghost use Rattle.cl_types.specs.Ascending.{Ascends};
-ghost use Rattle.cluster_objects.specs.declared.change.Change.TheVariants.{Put, Remove};
-ghost use Rattle.cluster_objects.specs.declared.change.Object.TheVariants as object;
-ghost use Rattle.cluster_objects.specs.declared.change.ObjectKey.TheVariants as object_key;
+ghost use Rattle.cluster_types.specs.declared.change.Change.TheVariants.{Put, Remove};
+ghost use Rattle.cluster_types.specs.declared.change.Object.TheVariants as object;
+ghost use Rattle.cluster_types.specs.declared.change.ObjectKey.TheVariants as object_key;
 ghost use Rattle.cluster_objects.specs.Apply.{made, outcome, difference, without_tier, in_tier, numbered, numbered_policy, tier_of_policy};
 ghost use Rattle.cluster_objects.specs.Changes.{apply, applied_of, undo_of, Follows};
-ghost use Rattle.cluster_objects.specs.Cluster.{KeepsPlaces};
-ghost use Rattle.cluster_objects.specs.Refusals.{checks, first_refusal, address_taker, tier_fixed, tier_taken};
-ghost use Rattle.cluster_objects.specs.Tier.{TierData, tier_named};
-ghost use Rattle.cluster_objects.specs.Steps.{is_kube};
+ghost use Rattle.cluster_types.specs.Cluster.{KeepsPlaces};
+ghost use Rattle.cluster_objects.specs.Refusals.{checks, first_refusal};
+ghost use Rattle.cluster_types.specs.Tier.{TierData, tier_named};
+ghost use Rattle.cluster_types.specs.Steps.{is_kube};
 
 use super::Cluster;
 use super::refusals::name_meant;
-use crate::change::{Applied, Change, ClusterRefusal, Kept, Object, ObjectKey, Undo};
-use crate::egress::EgressObj;
+use crate::change::{Applied, ClusterRefusal, Kept, Undo};
+use crate::forms::{node_form, pod_form, policy_form};
 use crate::kinds::{put, put_difference, removal_difference, remove};
-use crate::node::{Namespace, NodeInfo};
-use crate::pod::Pod;
-use crate::policy::{Policy, Rule, Tier};
-use crate::steps::is_kube;
 use cl_types::{Copies, NoMemory, PodKey, PolicyKey, Text};
+use cluster_types::{
+    Change, EgressObj, Namespace, NodeInfo, Object, ObjectKey, Pod, Policy, Rule, Tier, is_kube,
+};
+use label_select::{group_form, labels_form};
 
 /// The tier with the name.
 pub(super) fn tier_named<'a>(tiers: &'a [Tier], name: &Text) -> Option<&'a Tier>
@@ -182,7 +182,8 @@ impl Cluster {
 
     // Makes a change against which nothing stands.
     fn make(&mut self, c: Change) -> Result<Kept, NoMemory>
-        requires { first_refusal (checks self.old.cluster c) ≡ None }
+        requires none { first_refusal (checks self.old.cluster c) ≡ None }
+        requires numbered { numbered self.old.cluster c ≡ c }
         ensures made { IfOk result (λ kept. made self.old.cluster c ≡ outcome self.new.cluster kept.applied) }
         ensures undo { IfOk result (λ kept. kept.undo ≡ undo_of self.old.cluster c) }
         ensures err { OnErr result (self.new.cluster ≡ self.old.cluster) }
@@ -195,7 +196,8 @@ impl Cluster {
     }
 
     fn put(&mut self, object: Object) -> Result<Kept, NoMemory>
-        requires { first_refusal (checks self.old.cluster (Put object)) ≡ None }
+        requires none { first_refusal (checks self.old.cluster (Put object)) ≡ None }
+        requires numbered { numbered self.old.cluster (Put object) ≡ Put object }
         ensures made { IfOk result (λ kept. made self.old.cluster (Put object) ≡ outcome self.new.cluster kept.applied) }
         ensures undo { IfOk result (λ kept. kept.undo ≡ undo_of self.old.cluster (Put object)) }
         ensures err { OnErr result (self.new.cluster ≡ self.old.cluster) }
@@ -212,6 +214,7 @@ impl Cluster {
     }
 
     fn remove(&mut self, key: ObjectKey) -> Kept
+        requires { first_refusal (checks self.old.cluster (Remove key)) ≡ None }
         ensures made { made self.old.cluster (Remove key) ≡ outcome self.new.cluster result.applied }
         ensures undo { result.undo ≡ undo_of self.old.cluster (Remove key) }
         ensures places { KeepsPlaces self.old.places self.new.places }
@@ -227,11 +230,13 @@ impl Cluster {
     }
 
     fn put_node(&mut self, node: NodeInfo) -> Result<Kept, NoMemory>
+        requires { first_refusal (checks self.old.cluster (Put (object.Node node))) ≡ None }
         ensures made { IfOk result (λ kept. made self.old.cluster (Put (object.Node node)) ≡ outcome self.new.cluster kept.applied) }
         ensures undo { IfOk result (λ kept. kept.undo ≡ undo_of self.old.cluster (Put (object.Node node))) }
         ensures err { OnErr result (self.new.cluster ≡ self.old.cluster) }
         ensures places { KeepsPlaces self.old.places self.new.places }
     {
+        node_form(&node);
         let key = ObjectKey::Node(node.name.copy()?);
         let applied = put_difference(self.nodes.as_slice(), &node);
         let fixed = self.fixed;
@@ -246,11 +251,13 @@ impl Cluster {
     }
 
     fn put_namespace(&mut self, namespace: Namespace) -> Result<Kept, NoMemory>
+        requires { first_refusal (checks self.old.cluster (Put (object.Namespace namespace))) ≡ None }
         ensures made { IfOk result (λ kept. made self.old.cluster (Put (object.Namespace namespace)) ≡ outcome self.new.cluster kept.applied) }
         ensures undo { IfOk result (λ kept. kept.undo ≡ undo_of self.old.cluster (Put (object.Namespace namespace))) }
         ensures err { OnErr result (self.new.cluster ≡ self.old.cluster) }
         ensures places { KeepsPlaces self.old.places self.new.places }
     {
+        labels_form(&namespace.labels);
         let key = ObjectKey::Namespace(namespace.name.copy()?);
         let applied = put_difference(self.namespaces.as_slice(), &namespace);
         let fixed = self.fixed;
@@ -266,16 +273,17 @@ impl Cluster {
     }
 
     fn put_pod(&mut self, pod: Pod) -> Result<Kept, NoMemory>
-        requires { address_taker self.old.cluster pod ≡ None }
+        requires { first_refusal (checks self.old.cluster (Put (object.Pod pod))) ≡ None }
         ensures made { IfOk result (λ kept. made self.old.cluster (Put (object.Pod pod)) ≡ outcome self.new.cluster kept.applied) }
         ensures undo { IfOk result (λ kept. kept.undo ≡ undo_of self.old.cluster (Put (object.Pod pod))) }
         ensures err { OnErr result (self.new.cluster ≡ self.old.cluster) }
         ensures places { KeepsPlaces self.old.places self.new.places }
     {
+        pod_form(&pod);
         let key = ObjectKey::Pod(pod.key.copy()?);
         let applied = put_difference(self.pods.as_slice(), &pod);
         let fixed = self.fixed;
-        let old = pod_object(put(&mut self.pods, pod)?);
+        let old = pod_object(self.pods.put(pod)?);
         self.fixed = true;
         Ok(Kept {
             applied,
@@ -284,8 +292,7 @@ impl Cluster {
     }
 
     fn put_tier(&mut self, tier: Tier) -> Result<Kept, NoMemory>
-        requires fixed { tier_fixed self.old.cluster tier ≡ None }
-        requires taken { tier_taken self.old.cluster tier ≡ None }
+        requires { first_refusal (checks self.old.cluster (Put (object.Tier tier))) ≡ None }
         ensures made { IfOk result (λ kept. made self.old.cluster (Put (object.Tier tier)) ≡ outcome self.new.cluster kept.applied) }
         ensures undo { IfOk result (λ kept. kept.undo ≡ undo_of self.old.cluster (Put (object.Tier tier))) }
         ensures err { OnErr result (self.new.cluster ≡ self.old.cluster) }
@@ -303,11 +310,14 @@ impl Cluster {
     }
 
     fn put_policy(&mut self, policy: Policy) -> Result<Kept, NoMemory>
+        requires none { first_refusal (checks self.old.cluster (Put (object.Policy policy))) ≡ None }
+        requires numbered { numbered_policy self.old.cluster policy ≡ policy }
         ensures made { IfOk result (λ kept. made self.old.cluster (Put (object.Policy policy)) ≡ outcome self.new.cluster kept.applied) }
         ensures undo { IfOk result (λ kept. kept.undo ≡ undo_of self.old.cluster (Put (object.Policy policy))) }
         ensures err { OnErr result (self.new.cluster ≡ self.old.cluster) }
         ensures places { KeepsPlaces self.old.places self.new.places }
     {
+        policy_form(&policy);
         let key = ObjectKey::Policy(policy.key.copy()?);
         let applied = put_difference(self.policies.as_slice(), &policy);
         let fixed = self.fixed;
@@ -320,11 +330,13 @@ impl Cluster {
     }
 
     fn put_egress(&mut self, egress: EgressObj) -> Result<Kept, NoMemory>
+        requires { first_refusal (checks self.old.cluster (Put (object.Egress egress))) ≡ None }
         ensures made { IfOk result (λ kept. made self.old.cluster (Put (object.Egress egress)) ≡ outcome self.new.cluster kept.applied) }
         ensures undo { IfOk result (λ kept. kept.undo ≡ undo_of self.old.cluster (Put (object.Egress egress))) }
         ensures err { OnErr result (self.new.cluster ≡ self.old.cluster) }
         ensures places { KeepsPlaces self.old.places self.new.places }
     {
+        group_form(&egress.applied);
         let key = ObjectKey::Egress(egress.name.copy()?);
         let applied = put_difference(self.egresses.as_slice(), &egress);
         let fixed = self.fixed;
@@ -381,7 +393,7 @@ impl Cluster {
         ensures places { KeepsPlaces self.old.places self.new.places }
     {
         let fixed = self.fixed;
-        let old = remove(&mut self.pods, &key);
+        let old = self.pods.remove(&key);
         let applied = removal_difference(&old);
         let old = match old {
             Some(old) => Some(Object::Pod(old)),
@@ -396,6 +408,7 @@ impl Cluster {
     }
 
     fn remove_tier(&mut self, name: Text) -> Kept
+        requires { first_refusal (checks self.old.cluster (Remove (object_key.Tier name))) ≡ None }
         ensures made { made self.old.cluster (Remove (object_key.Tier name)) ≡ outcome self.new.cluster result.applied }
         ensures undo { result.undo ≡ undo_of self.old.cluster (Remove (object_key.Tier name)) }
         ensures places { KeepsPlaces self.old.places self.new.places }

@@ -6,28 +6,29 @@ ghost use Rattle.cl_types.specs.Addr.{addr_order};
 ghost use Rattle.cl_types.specs.Ascending.{Ascends, put, sorted_set};
 ghost use Rattle.cl_types.specs.RuleOrder.{policy_order};
 ghost use Rattle.cl_types.specs.Text.{text_eq};
-ghost use Rattle.cluster_objects.specs.declared.change.Change.TheVariants.{Put, Remove};
+ghost use Rattle.cluster_types.specs.declared.change.Change.TheVariants.{Put, Remove};
 ghost use Rattle.cluster_objects.specs.declared.change.ClusterRefusal.TheVariants.{TooMany};
-ghost use Rattle.cluster_objects.specs.declared.change.Object.TheVariants as object;
-ghost use Rattle.cluster_objects.specs.declared.change.ObjectKey.TheVariants as object_key;
+ghost use Rattle.cluster_types.specs.declared.change.Object.TheVariants as object;
+ghost use Rattle.cluster_types.specs.declared.change.ObjectKey.TheVariants as object_key;
 ghost use Rattle.cluster_objects.specs.Apply.{at_tier, made, makes_difference, tier_of_policy};
-ghost use Rattle.cluster_objects.specs.Egress.{addresses_beside};
-ghost use Rattle.cluster_objects.specs.Limits.{max_tiers, max_peers, max_ports, max_excepts};
-ghost use Rattle.cluster_objects.specs.Refusals.{checks, first_refusal, when, over, tier_taken, blocks_meet, both_meet, nodes_meet, names_tier, peers_of, port_count, except_count, excepts_over, policy_limits, list_limits, rule_limits};
-ghost use Rattle.cluster_objects.specs.Steps.{is_kube};
-ghost use Rattle.cluster_objects.specs.Tier.{TierData, is_static, name_meant, tier_named};
+ghost use Rattle.cluster_types.specs.Counts.{peers_of, port_count, except_count};
+ghost use Rattle.cluster_types.specs.Egress.{addresses_beside};
+ghost use Rattle.cluster_types.specs.Limits.{max_tiers, max_peers, max_ports, max_excepts};
+ghost use Rattle.cluster_objects.specs.Refusals.{checks, first_refusal, when, over, tier_taken, names_tier, excepts_over, policy_limits, list_limits, rule_limits};
+ghost use Rattle.cluster_types.specs.Node.{blocks_meet, both_meet, nodes_meet};
+ghost use Rattle.cluster_types.specs.Steps.{is_kube};
+ghost use Rattle.cluster_types.specs.Tier.{TierData, is_static, name_meant, tier_named};
 
 use super::Cluster;
 use super::changes::tier_named;
-use crate::change::{Change, ClusterRefusal, Object, ObjectKey};
-use crate::egress::EgressObj;
+use crate::change::ClusterRefusal;
 use crate::kinds::{is_full, is_there};
-use crate::node::{Namespace, NodeInfo};
-use crate::pod::{Pod, address_taker};
-use crate::policy::{Peer, Policy, Rule, Tier};
-use crate::steps::is_kube;
 use crate::totals::Total;
 use cl_types::{Addr, Copies, NoMemory, Prefix, Text};
+use cluster_types::{
+    Change, EgressObj, Namespace, NodeInfo, Object, ObjectKey, Peer, Pod, Policy, Rule, Tier,
+    is_kube,
+};
 use std::alloc::Global;
 
 // The limits of a cluster.
@@ -147,7 +148,7 @@ fn is(name: &Text, bytes: &[u8]) -> bool
     bytes == name.as_slice()
 }
 
-#[tactic(auto, unfolding(crate::specs::Tier::is_static))]
+#[tactic(auto, unfolding(cluster_types::specs::Tier::is_static))]
 fn is_static(name: &Text) -> bool
     ensures { result ≡ is_static name.now }
 {
@@ -370,7 +371,7 @@ impl Cluster {
     fn pod_refusal(&self, pod: &Pod) -> Result<Option<ClusterRefusal>, NoMemory>
         ensures { IfOk result (λ refusal. refusal ≡ first_refusal (checks self.now.cluster (Put (object.Pod pod.now)))) }
     {
-        if let Some(other) = address_taker(self.pods.as_slice(), pod) {
+        if let Some(other) = self.pods.taker(pod) {
             return Ok(Some(ClusterRefusal::AddressInUse(other.key.copy()?)));
         }
         if is_full(self.pods.as_slice(), pod, MAX_PODS) {

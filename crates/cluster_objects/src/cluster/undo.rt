@@ -1,19 +1,16 @@
 //! A change of a cluster is taken back, without memory.
 ghost use Rattle.std.specs.Prelude.{◌≡◌};
-ghost use Rattle.cluster_objects.specs.declared.change.Object.TheVariants as object;
-ghost use Rattle.cluster_objects.specs.declared.change.ObjectKey.TheVariants as object_key;
+ghost use Rattle.cluster_types.specs.declared.change.Object.TheVariants as object;
+ghost use Rattle.cluster_types.specs.declared.change.ObjectKey.TheVariants as object_key;
 ghost use Rattle.cluster_objects.specs.Changes.{taken_back, stood_again, cleared_again};
-ghost use Rattle.cluster_objects.specs.Cluster.{IsCluster, HasPlaces, KeepsPlaces};
+ghost use Rattle.cluster_types.specs.Cluster.{IsCluster, HasPlaces, KeepsPlaces};
 
 use super::Cluster;
 use super::changes::remove_named;
-use crate::change::{Object, ObjectKey, Undo};
-use crate::egress::EgressObj;
+use crate::change::Undo;
 use crate::kinds::{remove, restore};
-use crate::node::{Namespace, NodeInfo};
-use crate::pod::Pod;
-use crate::policy::{Policy, Tier};
 use cl_types::{PodKey, PolicyKey, Text};
+use cluster_types::{EgressObj, Namespace, NodeInfo, Object, ObjectKey, Pod, Policy, Tier};
 
 impl Cluster {
     /// Takes a change back: the old object stands at its key again, or nothing does, and the nodes are fixed as they
@@ -88,7 +85,7 @@ impl Cluster {
         ensures cluster { self.new.cluster ≡ stood_again self.old.cluster (object.Pod pod) fixed }
         ensures places { KeepsPlaces self.old.places self.new.places }
     {
-        restore(&mut self.pods, pod);
+        self.pods.restore(pod);
         self.fixed = fixed;
     }
 
@@ -145,7 +142,7 @@ impl Cluster {
         ensures cluster { self.new.cluster ≡ cleared_again self.old.cluster (object_key.Pod key.now) fixed }
         ensures places { KeepsPlaces self.old.places self.new.places }
     {
-        let _ = remove(&mut self.pods, key);
+        let _ = self.pods.remove(key);
         self.fixed = fixed;
     }
 

@@ -34,13 +34,13 @@ const JOB: &[u8] =
 const JOB_ODD_LABEL: &[u8] =
     br#"{"apiVersion":"v1","kind":"Pod","metadata":{"name":"job","labels":{"-":"x"}},"status":{"podIP":"10.10.1.5"}}"#;
 
-const POLICY: &[u8] =
+pub(crate) const POLICY: &[u8] =
     br#"{"apiVersion":"networking.k8s.io/v1","kind":"NetworkPolicy","metadata":{"namespace":"default","name":"web-in"},"spec":{"podSelector":{"matchLabels":{"app":"web"}},"policyTypes":["Ingress"],"ingress":[{"from":[{"podSelector":{"matchLabels":{"app":"cli"}}}],"ports":[{"protocol":"TCP","port":80}]}]}}"#;
 
 pub(crate) const ASK_80: &[u8] =
     br#"{"type":"X-ASK","view":"policies","node":"n1","direction":"ingress","own":"10.10.1.5","peer":"10.10.1.6","protocol":"tcp","port":80}"#;
 
-const ASK_81: &[u8] =
+pub(crate) const ASK_81: &[u8] =
     br#"{"type":"X-ASK","view":"policies","node":"n1","direction":"ingress","own":"10.10.1.5","peer":"10.10.1.6","protocol":"tcp","port":81}"#;
 
 const ASK_N9: &[u8] =
@@ -49,8 +49,14 @@ const ASK_N9: &[u8] =
 const ASK_N9_NO_PORT: &[u8] =
     br#"{"type":"X-ASK","view":"policies","node":"n9","direction":"ingress","own":"10.10.1.5","peer":"10.10.1.6","protocol":"tcp"}"#;
 
+// Two nodes and three pods, and what is written of them.
+pub(crate) const SITE: &[&[u8]] = &[N1, N2, WEB, CLI, DB];
+
+pub(crate) const SITE_OUT: &[u8] =
+    b"1 nodes 1\n2 nodes 2\n3 revision 1\n4 revision 2\n5 revision 3\n";
+
 // The lines of a file, the exit status, and what is written.
-type Row = (&'static [&'static [u8]], u8, &'static [u8]);
+pub(crate) type Row = (&'static [&'static [u8]], u8, &'static [u8]);
 
 const ROWS: &[Row] = &[
     // An unreadable line first; one policy and two questions.
@@ -95,7 +101,7 @@ const ROWS: &[Row] = &[
     (
         &[N1, WEB, ASK_N9_NO_PORT, N3_TOO_SHORT, JOB_ODD_LABEL],
         1,
-        b"1 nodes 1\n2 revision 1\n3 refused NotBuilt\n4 refused NotBuilt\n5 refused NotBuilt\n",
+        b"1 nodes 1\n2 revision 1\n3 refused BadControl\n4 refused BadPrefix\n5 refused BadLabel\n",
     ),
     // Nothing is refused.
     (
@@ -106,7 +112,7 @@ const ROWS: &[Row] = &[
 ];
 
 // The lines, with a line feed between two.
-fn joined(alloc: Global, lines: &[&[u8]]) -> Result<Vec<u8>, AllocError> {
+pub(crate) fn joined(alloc: Global, lines: &[&[u8]]) -> Result<Vec<u8>, AllocError> {
     let mut bytes = Vec::new(alloc);
     for (place, line) in lines.iter().enumerate() {
         if place > 0 {

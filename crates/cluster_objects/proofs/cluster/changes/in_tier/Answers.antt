@@ -1,7 +1,6 @@
-use Rattle.std.proofs.Common.{◌≡◌, List, sym, subst, map, ◌∙◌, ap}
-use Rattle.cluster_objects.specs.declared.policy.Rule.{Rule}
-use Rattle.cluster_objects.specs.Apply.{in_tier}
-use Rattle.cluster_objects.specs.Policy.{PolicyData, IsPolicy}
+use Rattle.std.proofs.Common.{List, sym}
+use Rattle.cluster_types.specs.declared.policy.Rule.{Rule}
+use Rattle.cluster_types.specs.Policy.{PolicyData}
 use Rattle.cluster_objects.proofs.Numbered.{is_policy_still}
 use Rattle.cluster_objects.proofs.cluster.changes.in_tier.Goals as goal
 

@@ -1,6 +1,6 @@
 use Rattle.std.proofs.Common.{sym, ◌∙◌, ap}
 use Rattle.cl_types.specs.Text.{text_eq}
-use Rattle.cluster_objects.specs.Tier.{TierData}
+use Rattle.cluster_types.specs.Tier.{TierData}
 use Rattle.cluster_objects.proofs.Tiers.{stands_there}
 use Rattle.cluster_objects.proofs.cluster.changes.remove_named.Goals as goal
 

@@ -1,5 +1,5 @@
 use Rattle.std.proofs.Common.{◌≡◌, take}
-use Rattle.cluster_objects.specs.Egress.{addresses_beside}
+use Rattle.cluster_types.specs.Egress.{addresses_beside}
 use Rattle.cluster_objects.proofs.cluster.refusals.addresses_beside.Given as goal
 
 -- so far the addresses of those that were looked at

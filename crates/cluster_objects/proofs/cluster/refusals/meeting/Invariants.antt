@@ -1,6 +1,6 @@
 use Rattle.std.proofs.Common.{◌≡◌, ◌&&◌, not, drop, find}
 use Rattle.cl_types.specs.Text.{text_eq}
-use Rattle.cluster_objects.specs.Refusals.{nodes_meet}
+use Rattle.cluster_types.specs.Node.{nodes_meet}
 use Rattle.cluster_objects.proofs.cluster.refusals.meeting.Given as goal
 
 -- what is sought is among the nodes that are left

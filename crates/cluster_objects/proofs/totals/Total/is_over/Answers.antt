@@ -1,7 +1,7 @@
 use Rattle.std.proofs.Common.{arith}
 use Rattle.std.proofs.lemmas.Bool.Decides.{nat_tests}
 use Rattle.cl_types.specs.RuleOrder.{policy_order_total}
-use Rattle.cluster_objects.specs.Policy.{PolicyData}
+use Rattle.cluster_types.specs.Policy.{PolicyData}
 use Rattle.cluster_objects.specs.Refusals.{counted}
 use Rattle.cluster_objects.proofs.Puts.{total_put}
 use Rattle.cluster_objects.proofs.totals.Total.is_over.Goals as goal

@@ -1,7 +1,8 @@
 use Rattle.std.proofs.Common.{◌≡◌, ◌+◌, drop}
 use Rattle.cl_types.specs.Ascending.{put, without}
 use Rattle.cluster_objects.specs.Apply.{at_policy}
-use Rattle.cluster_objects.specs.Refusals.{counted, total}
+use Rattle.cluster_objects.specs.Refusals.{counted}
+use Rattle.cluster_types.specs.Counts.{total}
 use Rattle.cluster_objects.proofs.totals.Total.is_over.Given as goal
 
 -- the total and the room that is left are the limit and what the policies to come have

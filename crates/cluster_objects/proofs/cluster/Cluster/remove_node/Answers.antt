@@ -1,0 +1,17 @@
+use Rattle.cluster_objects.proofs.Keeping.{node_removed}
+use Rattle.cluster_objects.proofs.cluster.Cluster.remove_node.Goals as goal
+
+pub invariant_of-self : goal.invariant_of-self
+invariant_of-self c =
+    let room = c.self.invariant.places in
+    record {
+      cluster = rw c.remove-old.ensures.items (node_removed _ c.self.invariant.cluster c.args.name);
+      places = record {
+        nodes = c.remove-old.ensures.places;
+        namespaces = room.namespaces;
+        pods = room.pods;
+        tiers = room.tiers;
+        policies = room.policies;
+        egresses = room.egresses;
+      };
+    }

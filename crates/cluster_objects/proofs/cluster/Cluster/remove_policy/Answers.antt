@@ -1,0 +1,17 @@
+use Rattle.cluster_objects.proofs.Keeping.{policy_removed}
+use Rattle.cluster_objects.proofs.cluster.Cluster.remove_policy.Goals as goal
+
+pub invariant_of-self : goal.invariant_of-self
+invariant_of-self c =
+    let room = c.self.invariant.places in
+    record {
+      cluster = rw c.remove-old.ensures.items (policy_removed _ c.self.invariant.cluster c.args.key);
+      places = record {
+        nodes = room.nodes;
+        namespaces = room.namespaces;
+        pods = room.pods;
+        tiers = room.tiers;
+        policies = c.remove-old.ensures.places;
+        egresses = room.egresses;
+      };
+    }

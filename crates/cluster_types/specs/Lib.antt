@@ -1,0 +1,15 @@
+pub mod Choice
+pub mod Cluster
+pub mod ClusterLaws
+pub mod Counts
+pub mod Egress
+pub mod Evaluation
+pub mod Groups
+pub mod Limits
+pub mod Node
+pub mod Pod
+pub mod Policy
+pub mod Steps
+pub mod StepsLaws
+pub mod Tier
+pub mod Whole

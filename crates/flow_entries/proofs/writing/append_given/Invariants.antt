@@ -1,0 +1,12 @@
+use Rattle.std.proofs.Common.{◌≡◌, ◌++◌, map, drop}
+use Rattle.std.specs.Option.{option_map}
+use Rattle.cl_types.specs.Written.{Begins}
+use Rattle.flow_entries.specs.Listing.{continued, given}
+use Rattle.flow_entries.proofs.writing.append_given.Given as goal
+
+-- what is written, with what is left, is the whole
+abbrev pub invariant-loop-part : goal.invariant-loop-part
+invariant-loop-part g l = record {
+  whole : l.out ++ continued l.begun (given (map (option_map g.T.Written.text) (drop l.part-index l.parts))) ≡ l.fn.out ++ continued l.fn.begun (given (map (option_map g.T.Written.text) l.parts));
+  begins : Begins l.fn.out l.out;
+}

@@ -1,0 +1,4 @@
+pub mod Forward
+pub mod Listing
+pub mod Matching
+pub mod Table

@@ -1,0 +1,5 @@
+pub mod Class
+pub mod Index
+pub mod Lookup
+pub mod Order
+pub mod Search

@@ -1,0 +1,2 @@
+pub mod PodAddresses
+pub mod SortedPorts

@@ -1,0 +1,8 @@
+//! Reading pods, with their addresses and the ports that their containers name.
+#![tactic(auto)]
+
+mod containers;
+mod entries;
+mod pods;
+
+pub use pods::{pod_fault, pod_key, pod_value};

@@ -1,0 +1,4 @@
+pub mod Applied
+pub mod Peers
+pub mod Policies
+pub mod Rules

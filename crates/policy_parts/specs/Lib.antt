@@ -1,0 +1,5 @@
+pub mod Actions
+pub mod Directions
+pub mod Places
+pub mod PortWords
+pub mod Ports

@@ -1,9 +1,0 @@
-use Rattle.std.proofs.Common.{◌≡◌, [], map, string_bytes}
-use Rattle.serde_json.specs.View.{view}
-use Rattle.policy_reader.specs.ReadObjects.{labels_from}
-use Rattle.policy_reader.proofs.metadata.labels_from.Given as goal
-
--- the labels so far with those that are left are all of them
-abbrev pub invariant-loop-key : goal.invariant-loop-key
-invariant-loop-key l =
-    labels_from (map (λ e. (string_bytes e.0, view e.1)) l.key-iterator) l.labels ≡ labels_from (map (λ e. (string_bytes e.0, view e.1)) l.members.entries) []

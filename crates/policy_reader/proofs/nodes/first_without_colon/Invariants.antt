@@ -1,7 +1,0 @@
-use Rattle.std.proofs.Common.{◌≡◌, drop, find}
-use Rattle.policy_reader.specs.ReadObjects.{has_no_colon}
-use Rattle.policy_reader.proofs.nodes.first_without_colon.Given as goal
-
--- what is sought is among the texts that are left
-abbrev pub invariant-loop-text : goal.invariant-loop-text
-invariant-loop-text l = find has_no_colon (drop l.text-index l.texts) ≡ find has_no_colon l.texts

@@ -1,9 +1,0 @@
-use Rattle.std.proofs.Common.{◌≡◌, ◌++◌, map, drop, Ok}
-use Rattle.serde_json.specs.View.{view}
-use Rattle.policy_reader.specs.Item.{◌>>=◌}
-use Rattle.policy_reader.specs.ReadObjects.{each, ip_of}
-use Rattle.policy_reader.proofs.pods.each_ip.Given as goal
-
--- the texts so far with those that are left are all of them
-abbrev pub invariant-loop-item : goal.invariant-loop-item
-invariant-loop-item l = (each ip_of (map view (drop l.item-index l.items)) >>= λ ts. Ok (l.texts.items ++ ts)) ≡ each ip_of (map view l.items)
