@@ -1,16 +1,12 @@
 -- The changes from one map to another lead from the one to the other.
 use Rattle.std.proofs.Common.{◌≡◌, ℕ, List, [], ◌∷◌, ◌++◌, Bool, true, false, Option, Some, None, if◌then◌else◌, refl, sym, ap, ◌∙◌, subst}
-use Rattle.std.specs.List.{AllByRecursion}
-use Rattle.std.specs.declared.cmp.Ordering.{Ordering}
-use Rattle.std.specs.declared.cmp.Ordering.TheVariants.{Less, Equal, Greater}
-use Rattle.std.specs.Ordering.{is_eq, match_ordering}
+use Rattle.std.specs.declared.cmp.Ordering.TheVariants.{Equal}
+use Rattle.std.specs.Ordering.{is_eq}
 use Rattle.std.proofs.lemmas.Cmp.{nat_list_cmp_total}
 use Rattle.cl_types.specs.declared.addr.Addr.{Addr}
 use Rattle.cl_types.specs.declared.stream.Stream.{Stream}
 use Rattle.cl_types.specs.Addr.{addr_order}
 use Rattle.cl_types.specs.Ascending.{Ascends, found}
-use Rattle.cl_types.specs.Text.{text_order_total}
-use Rattle.cl_types.specs.AscendingLaws.{ascends_sorted, all_sorted, found_put}
 use Rattle.cl_types.specs.Equality.{is_same}
 use Rattle.cl_types.specs.EqualityLaws.{is_same-one}
 use Rattle.label_select.specs.Group.{Group, IsGroup}
@@ -21,52 +17,19 @@ use Rattle.watch_streams.specs.declared.message.StreamObject.{StreamObject}
 use Rattle.watch_streams.specs.declared.message.StreamObject.TheVariants as object
 use Rattle.watch_streams.specs.declared.net.NetEgress as egress
 use Rattle.watch_streams.specs.declared.net.NetPolicy as policy
-use Rattle.watch_streams.specs.Difference.{belongs, members_without, patched, patch, unless_same, replaced, changed, difference, after_changes}
+use Rattle.watch_streams.specs.Difference.{belongs, settled, members_without, patched, patch, unless_same, replaced, changed, difference, after_changes}
 use Rattle.watch_streams.specs.Laws.{HasAscendingMembers, HasGroupForm, IsMap, DifferencesLeadToTheNewMap}
 use Rattle.cl_types.specs.Text.{text_order}
-use Rattle.watch_streams.specs.Names.{object_text, at_text, by_name, AscendByName}
+use Rattle.watch_streams.specs.Names.{name_of, object_text, at_text, by_name}
 use Rattle.watch_streams.specs.Net.{MemberData, member_order}
 use Rattle.cl_types.specs.AscendingLaws.{found_holds, found_at}
-use Rattle.cl_types.specs.AscendingLaws.{equal_maps, none_behind}
-use Rattle.watch_streams.proofs.Cells.{IsAt, cells, ascends_changes, where_there, found_changes}
+use Rattle.cl_types.specs.AscendingLaws.{equal_maps}
+use Rattle.watch_streams.specs.MapLaws.{first_at, ascends_by_name, found_by_name, first_is_found}
+use Rattle.watch_streams.specs.ChangeLaws.{IsAt, cells, ascends_changes, where_there, found_changes}
 use Rattle.cl_types.specs.OrderLaws.{text_order_exact}
-use Rattle.watch_streams.proofs.Members.{patched_is, unpatched_is}
+use Rattle.watch_streams.proofs.Members.{patched_is, unpatched_is, members_of_itself}
 
--- ---- the map of some objects
-
--- the first object of a name
-abbrev first_at : List ℕ → List StreamObject → Option StreamObject
-first_at t [] = None
-first_at t (o ∷ os) = if is_eq (text_order (object_text o) t) then Some o else first_at t os
-
-pub ascends_by_name : (os : List StreamObject) → AscendByName (by_name os)
-ascends_by_name = ascends_sorted object_text text_order_total
-
--- what holds of all objects holds of all of their map
-pub all_by_name : (P : StreamObject → Type 0) (os : List StreamObject) → AllByRecursion P os → AllByRecursion P (by_name os)
-all_by_name = all_sorted object_text text_order
-
-found_by_name : (t : List ℕ) (os : List StreamObject) → found (at_text t) (by_name os) ≡ first_at t os
-found_by_name t [] = refl
-found_by_name t (o ∷ os) =
-    found_put object_text nat_list_cmp_total t o (by_name os)
-    ∙ ap (λ x. if is_eq (text_order (object_text o) t) then Some o else x) (found_by_name t os)
-
--- in an ascending list the first object of a name is the one that is found
-first_is_found : (t : List ℕ) (os : List StreamObject) → AscendByName os → first_at t os ≡ found (at_text t) os
-first_is_found t [] up = refl
-first_is_found t (o ∷ os) up = by_order (text_order (object_text o) t) refl (first_is_found t os up.1)
-  where
-    by_order : (r : Ordering) → text_order (object_text o) t ≡ r → first_at t os ≡ found (at_text t) os
-        → (if is_eq r then Some o else first_at t os) ≡ match_ordering r (found (at_text t) os) (Some o) None
-    by_order Less is rest = rest
-    by_order Equal is rest = refl
-    by_order Greater is rest = rest ∙ none_behind object_text nat_list_cmp_total t o os Greater is (λ q. cc) up.0
-
--- a map is that of its own objects
-pub map_of_itself : (os : List StreamObject) → AscendByName os → by_name os ≡ os
-map_of_itself os up =
-    equal_maps object_text nat_list_cmp_total (by_name os) os (ascends_by_name os) up (λ t. found_by_name t os ∙ first_is_found t os up)
+-- ---- names of two lists
 
 -- where neither of two lists has a name, none has it
 abbrev BothNone : Option StreamObject → Option StreamObject → Option StreamObject → Type 0
@@ -128,12 +91,20 @@ abbrev Fits : Stream → Option StreamObject → Type 0
 Fits s None = Unit {0}
 Fits s (Some o) = (belongs s o ≡ true) × HasAscendingMembers o × HasGroupForm o
 
-put_fits : (s : Stream) (o : StreamObject) (x : Option StreamObject) → belongs s o ≡ true → cells s (change.Put o ∷ []) x ≡ Some o
-put_fits s o x b = ap (λ z. if z then Some o else x) b
+pub settled_same : (o : StreamObject) → HasAscendingMembers o → settled o ≡ o
+settled_same (object.Policy p) up = refl
+settled_same (object.Egress e) up = refl
+settled_same (object.Group group members) up = ap (object.Group group) (members_of_itself members up)
 
-unless_cell : (s : Stream) (b : Bool) (old new : StreamObject) → belongs s new ≡ true → (b ≡ true → old ≡ new) → cells s (unless_same b new) (Some old) ≡ Some new
-unless_cell s true old new here same = ap Some (same refl)
-unless_cell s false old new here same = put_fits s new (Some old) here
+put_fits : (s : Stream) (o : StreamObject) (x : Option StreamObject) → belongs s o ≡ true → HasAscendingMembers o → cells s (change.Put o ∷ []) x ≡ Some o
+put_fits s o x b up = ap (λ z. if belongs s z then Some z else x) (settled_same o up) ∙ ap (λ z. if z then Some o else x) b
+
+removed_fits : (s : Stream) (o : StreamObject) → belongs s o ≡ true → cells s (change.Remove (name_of o) ∷ []) (Some o) ≡ None
+removed_fits s o b = rw b refl
+
+unless_cell : (s : Stream) (b : Bool) (old new : StreamObject) → belongs s new ≡ true → HasAscendingMembers new → (b ≡ true → old ≡ new) → cells s (unless_same b new) (Some old) ≡ Some new
+unless_cell s true old new here up same = ap Some (same refl)
+unless_cell s false old new here up same = put_fits s new (Some old) here up
 
 module _ (differ : (a b : Group) → IsGroup a → IsGroup b → group_text a ≡ group_text b → a ≡ b) (addr_exact : (a b : Addr) → addr_order a b ≡ Equal → a ≡ b) where
   patch_cell : (s : Stream) (p : Group) (old new : List MemberData) → belongs s (object.Group p new) ≡ true
@@ -162,15 +133,15 @@ module _ (differ : (a b : Group) → IsGroup a → IsGroup b → group_text a �
 
   replaced_cell : (s : Stream) (old new : StreamObject) → object_text old ≡ object_text new → Fits s (Some old) → Fits s (Some new) → cells s (replaced old new) (Some old) ≡ Some new
   replaced_cell s (object.Policy p) (object.Policy q) e f g =
-      unless_cell s (is_same policy.the_code p q) (object.Policy p) (object.Policy q) g.0 (λ same. ap (λ z. object.Policy z) (is_same-one policy.the_code p q same))
-  replaced_cell s (object.Policy p) (object.Egress q) e f g = put_fits s (object.Egress q) (Some (object.Policy p)) g.0
-  replaced_cell s (object.Policy p) (object.Group q members) e f g = put_fits s (object.Group q members) (Some (object.Policy p)) g.0
-  replaced_cell s (object.Egress p) (object.Policy q) e f g = put_fits s (object.Policy q) (Some (object.Egress p)) g.0
+      unless_cell s (is_same policy.the_code p q) (object.Policy p) (object.Policy q) g.0 g.1 (λ same. ap (λ z. object.Policy z) (is_same-one policy.the_code p q same))
+  replaced_cell s (object.Policy p) (object.Egress q) e f g = put_fits s (object.Egress q) (Some (object.Policy p)) g.0 g.1
+  replaced_cell s (object.Policy p) (object.Group q members) e f g = put_fits s (object.Group q members) (Some (object.Policy p)) g.0 g.1
+  replaced_cell s (object.Egress p) (object.Policy q) e f g = put_fits s (object.Policy q) (Some (object.Egress p)) g.0 g.1
   replaced_cell s (object.Egress p) (object.Egress q) e f g =
-      unless_cell s (is_same egress.the_code p q) (object.Egress p) (object.Egress q) g.0 (λ same. ap (λ z. object.Egress z) (is_same-one egress.the_code p q same))
-  replaced_cell s (object.Egress p) (object.Group q members) e f g = put_fits s (object.Group q members) (Some (object.Egress p)) g.0
-  replaced_cell s (object.Group p old) (object.Policy q) e f g = put_fits s (object.Policy q) (Some (object.Group p old)) g.0
-  replaced_cell s (object.Group p old) (object.Egress q) e f g = put_fits s (object.Egress q) (Some (object.Group p old)) g.0
+      unless_cell s (is_same egress.the_code p q) (object.Egress p) (object.Egress q) g.0 g.1 (λ same. ap (λ z. object.Egress z) (is_same-one egress.the_code p q same))
+  replaced_cell s (object.Egress p) (object.Group q members) e f g = put_fits s (object.Group q members) (Some (object.Egress p)) g.0 g.1
+  replaced_cell s (object.Group p old) (object.Policy q) e f g = put_fits s (object.Policy q) (Some (object.Group p old)) g.0 g.1
+  replaced_cell s (object.Group p old) (object.Egress q) e f g = put_fits s (object.Egress q) (Some (object.Group p old)) g.0 g.1
   replaced_cell s (object.Group p old) (object.Group q new) e f g =
       let one : p ≡ q = differ p q f.2 g.2 e in
       patch_cell s p old new (subst (λ (z : Group). belongs s (object.Group z new) ≡ true) (sym one) g.0) f.1 g.1 (members_without new old) (members_without old new) refl refl
@@ -178,8 +149,8 @@ module _ (differ : (a b : Group) → IsGroup a → IsGroup b → group_text a �
 
   changed_cell : (s : Stream) (u : List ℕ) (x y : Option StreamObject) → HasText u x → HasText u y → Fits s x → Fits s y → cells s (changed x y) x ≡ y
   changed_cell s u None None d e f g = refl
-  changed_cell s u None (Some new) d e f g = put_fits s new None g.0
-  changed_cell s u (Some old) None d e f g = refl
+  changed_cell s u None (Some new) d e f g = put_fits s new None g.0 g.1
+  changed_cell s u (Some old) None d e f g = removed_fits s old f.0
   changed_cell s u (Some old) (Some new) d e f g = replaced_cell s old new (d ∙ sym e) f g
 
   fits : (s : Stream) (t : List ℕ) (os : List StreamObject) → IsMap s os → (x : Option StreamObject) → found (at_text t) os ≡ x → Fits s x

@@ -9,7 +9,7 @@ use Rattle.cluster_types.specs.declared.policy.Rule.{Rule}
 use Rattle.cluster_types.specs.Policy.{PolicyData}
 use Rattle.cluster_types.specs.Whole.{IsWholePeer, AreWholePeers, IsWholePolicy}
 use Rattle.watch_streams.specs.Projection.{all_pods, is_egress, has_names, peer_groups, policy_groups, rule_groups}
-use Rattle.watch_streams.proofs.OneOfAll.{all_flat_map}
+use Rattle.watch_streams.specs.OneOfAll.{all_flat_map}
 use Rattle.cl_types.specs.ListLaws.{all_weaker}
 
 all_pods_form : IsGroup all_pods

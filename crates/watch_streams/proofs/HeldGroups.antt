@@ -21,7 +21,7 @@ use Rattle.watch_streams.specs.Projection.{group_object, groups_by_text, pod_mem
 use Rattle.watch_streams.proofs.Members.{list_any-ascending}
 use Rattle.cl_types.specs.OrderLaws.{text_order_exact}
 use Rattle.cl_types.specs.ListLaws.{all_weaker}
-use Rattle.watch_streams.proofs.OneOfAll.{all_of_both, list_any-each, list_any-filter, list_any-map, list_any-flat_map}
+use Rattle.watch_streams.specs.OneOfAll.{all_of_both, list_any-each, list_any-filter, list_any-map, list_any-flat_map}
 use Rattle.cl_types.specs.AscendingLaws.{list_any-put}
 
 -- ---- the texts of groups

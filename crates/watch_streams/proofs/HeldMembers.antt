@@ -19,7 +19,7 @@ use Rattle.watch_streams.specs.Net.{MemberData}
 use Rattle.watch_streams.specs.Projection.{is_on, members_on, group_members}
 use Rattle.watch_streams.proofs.HeldGroups.{HeldAs, held_member_is, list_any-members}
 use Rattle.cl_types.specs.ListLaws.{all_weaker}
-use Rattle.watch_streams.proofs.OneOfAll.{or_false, and_false, list_any-all, list_any-each, list_any-none, list_any-and}
+use Rattle.watch_streams.specs.OneOfAll.{or_false, and_false, list_any-all, list_any-each, list_any-none, list_any-and}
 
 only_one : (cnt on at g d : Bool) → ((cnt && on) && at) ≡ true → ((on && (cnt && g)) && (at && d)) ≡ ((cnt && g) && d)
 only_one true true true g d e = refl

@@ -21,11 +21,11 @@ use Rattle.cluster_types.specs.Whole.{IsWholePolicy}
 use Rattle.watch_streams.specs.Names.{at_text, by_name}
 use Rattle.watch_streams.specs.Net.{NetPolicyData}
 use Rattle.watch_streams.specs.Projection.{net_rule, net_policy, net_egress}
-use Rattle.watch_streams.proofs.Differences.{all_by_name}
+use Rattle.watch_streams.specs.MapLaws.{all_by_name}
 use Rattle.watch_streams.proofs.FirstRules.{Differ, into, first-append, into-swap, rules_differ}
 use Rattle.cl_types.specs.OrderLaws.{text_order_exact}
 use Rattle.cl_types.specs.ListLaws.{all_weaker, all_filter, or_swap}
-use Rattle.watch_streams.proofs.OneOfAll.{all_of, all_of_both, all_map, all_append}
+use Rattle.watch_streams.specs.OneOfAll.{all_of, all_of_both, all_map, all_append}
 
 -- ---- steps over a list, from its end
 

@@ -30,7 +30,7 @@ use Rattle.watch_streams.proofs.GroupForms.{groups_are}
 use Rattle.watch_streams.proofs.HeldGroups.{GroupTextsDiffer, HeldAs, held_is_held, list_any-groups_by_text, all_groups_by_text}
 use Rattle.watch_streams.proofs.HeldMembers.{AsksOfPods, peer_member, own_any}
 use Rattle.cl_types.specs.ListLaws.{all_weaker}
-use Rattle.watch_streams.proofs.OneOfAll.{or_false, and_false, and_true, and_assoc, list_any-all, list_any-each, list_any-and, list_any-or, list_any-flat_map, list_any-swap, list_all-all}
+use Rattle.watch_streams.specs.OneOfAll.{or_false, and_false, and_true, and_assoc, list_any-all, list_any-each, list_any-and, list_any-or, list_any-flat_map, list_any-swap, list_all-all}
 
 -- ---- tests
 

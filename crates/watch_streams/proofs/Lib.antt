@@ -1,4 +1,3 @@
-pub mod Cells
 pub mod Differences
 pub mod FirstRules
 pub mod GroupForms
@@ -6,11 +5,11 @@ pub mod HeldGroups
 pub mod HeldMembers
 pub mod HeldPolicies
 pub mod HeldRules
-pub mod MemberOrder
+pub mod ListOrders
+pub mod MemberEdits
 pub mod Members
 pub mod NamedOnce
 pub mod NetPolicies
-pub mod OneOfAll
 pub mod OneRevision
 pub mod Projections
 pub mod Streams

@@ -1,20 +1,19 @@
 -- Members of groups as sets.
 use Rattle.std.proofs.Common.{◌≡◌, List, [], ◌∷◌, ◌++◌, Bool, true, false, not, ◌&&◌, ◌||◌, Option, Some, None, filter, refl, sym, ap, ◌∙◌, true≢false}
-use Rattle.std.specs.List.{list_any}
+use Rattle.std.specs.List.{AllByRecursion, list_any}
 use Rattle.std.specs.declared.cmp.Ordering.{Ordering}
 use Rattle.std.specs.declared.cmp.Ordering.TheVariants.{Less, Equal, Greater}
 use Rattle.std.proofs.lemmas.List.Folds.{list_any-append}
 use Rattle.cl_types.specs.declared.addr.Addr.{Addr}
 use Rattle.cl_types.specs.Addr.{addr_order}
 use Rattle.std.specs.Ordering.{is_eq, match_ordering}
-use Rattle.cl_types.specs.Ascending.{Ascends, found}
-use Rattle.cl_types.specs.AscendingLaws.{ascends_sorted}
+use Rattle.cl_types.specs.Ascending.{Ascends, found, put}
 use Rattle.watch_streams.specs.Difference.{has_member, members_without, patched}
 use Rattle.watch_streams.specs.Net.{MemberData, member_order, ascending_members}
 use Rattle.cl_types.specs.AscendingLaws.{ascends_filter}
-use Rattle.watch_streams.proofs.MemberOrder.{member_order_total, member_exact}
+use Rattle.watch_streams.specs.MemberOrder.{member_order_total, member_exact, ascends_members}
 use Rattle.cl_types.specs.SortedSetLaws.{list_any-sorted_set}
-use Rattle.watch_streams.proofs.OneOfAll.{and_false, and_true, list_any-and, list_any-each, list_any-filter}
+use Rattle.watch_streams.specs.OneOfAll.{and_false, and_true, list_any-and, list_any-each, list_any-filter}
 use Rattle.cl_types.specs.AscendingLaws.{equal_maps, none_behind}
 
 -- the member alone, where it is there
@@ -39,8 +38,15 @@ set_same true false a b = absurd (true≢false b)
 set_same false true a b = absurd (true≢false a)
 set_same false false a b = refl
 
-pub ascends_members : (ms : List MemberData) → Ascends (λ m. m) member_order (ascending_members ms)
-ascends_members = ascends_sorted (λ m. m) member_order_total
+-- a list that ascends is the set of its members
+pub members_of_itself : (ms : List MemberData) → Ascends (λ m. m) member_order ms → ascending_members ms ≡ ms
+members_of_itself [] up = refl
+members_of_itself (m ∷ ms) up =
+    ap (put (λ n. member_order n m) m) (members_of_itself ms up.1) ∙ put_first ms up.0
+  where
+    put_first : (ns : List MemberData) → AllByRecursion (λ n. member_order m n ≡ Less) ns → put (λ n. member_order n m) m ns ≡ m ∷ ns
+    put_first [] h = refl
+    put_first (n ∷ ns) h = rw (member_order_total.antisymm n m, h.0) refl
 
 module _ (addr_exact : (a b : Addr) → addr_order a b ≡ Equal → a ≡ b) where
   exact : (a b : MemberData) → member_order a b ≡ Equal → a ≡ b

@@ -11,8 +11,9 @@ use Rattle.watch_streams.specs.Difference.{changed}
 use Rattle.watch_streams.specs.Laws.{DifferencesNameOnce, MapsNameOnce}
 use Rattle.cl_types.specs.Text.{text_order}
 use Rattle.watch_streams.specs.Names.{AreDistinct, AscendByName, at_text, by_name, changed_name, name_of, name_text, object_text}
-use Rattle.watch_streams.proofs.Cells.{IsAt}
-use Rattle.watch_streams.proofs.Differences.{ascends_by_name, changed_at, found_text}
+use Rattle.watch_streams.specs.ChangeLaws.{IsAt}
+use Rattle.watch_streams.specs.MapLaws.{ascends_by_name}
+use Rattle.watch_streams.proofs.Differences.{changed_at, found_text}
 
 -- every name's text is after this one
 abbrev AllAfter : List ℕ → List StreamName → Type 0

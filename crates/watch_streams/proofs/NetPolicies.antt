@@ -30,7 +30,7 @@ use Rattle.watch_streams.specs.declared.net.NetRule.{NetRule}
 use Rattle.watch_streams.specs.Laws.{AppliedPoliciesAreWhole, PoliciesOnStreamsAreWhole}
 use Rattle.watch_streams.specs.Net.{IsNetKubePolicy, IsNetKubeRule, IsNetPolicy, net_isolates}
 use Rattle.watch_streams.specs.Projection.{is_on, net_policy, net_rule, policies_on, policy_is_on}
-use Rattle.watch_streams.proofs.OneOfAll.{all_map, all_of_both, and_false, found-passes, list_any-each, list_any-none}
+use Rattle.watch_streams.specs.OneOfAll.{all_map, all_of_both, and_false, found-passes, list_any-each, list_any-none}
 
 -- ---- the order of rules
 

@@ -36,7 +36,7 @@ use Rattle.watch_streams.proofs.HeldRules.{no_rule, PeersAreHeld, AppliedAreHeld
 use Rattle.cl_types.specs.RuleOrder.{policy_order_total}
 use Rattle.cl_types.specs.AscendingLaws.{ascends_filter}
 use Rattle.cl_types.specs.ListLaws.{all_weaker, all_filter}
-use Rattle.watch_streams.proofs.OneOfAll.{all_of_both, all_map, all_append, all_front, all_flat_map, all_parts, all_kept, and_false, list_any-all, list_any-each, list_any-none, list_any-filter, found-passes, found-fails, filter-map, filter-all, filter-none, flat_map-none, flat_map-kept, map-flat_map}
+use Rattle.watch_streams.specs.OneOfAll.{all_of_both, all_map, all_append, all_front, all_flat_map, all_parts, all_kept, and_false, list_any-all, list_any-each, list_any-none, list_any-filter, found-passes, found-fails, filter-map, filter-all, filter-none, flat_map-none, flat_map-kept, map-flat_map}
 
 isolates_same : (p : PolicyData) (d : Dir) → net_isolates (net_policy p) d ≡ isolates p d
 isolates_same p Ingress = refl

@@ -1,5 +1,5 @@
 -- What belongs on a stream is a map of it, and a map taken as a snapshot is that map.
-use Rattle.std.proofs.Common.{ℕ, ◌≡◌, List, ◌++◌, true, ◌&&◌, filter, map, refl, ap, ◌∙◌}
+use Rattle.std.proofs.Common.{ℕ, ◌≡◌, List, [], ◌∷◌, ◌++◌, true, ◌&&◌, filter, map, refl, ap, ◌∙◌}
 use Rattle.cluster_types.specs.Cluster.{ClusterData, IsCluster}
 use Rattle.std.specs.List.{AllByRecursion, flat_map}
 use Rattle.cl_types.specs.declared.stream.Stream.{Stream}
@@ -12,22 +12,28 @@ use Rattle.cluster_types.specs.Pod.{PodData}
 use Rattle.cluster_types.specs.Policy.{PolicyData}
 use Rattle.watch_streams.specs.declared.message.StreamObject.{StreamObject}
 use Rattle.watch_streams.specs.declared.message.StreamObject.TheVariants as object
-use Rattle.watch_streams.specs.Difference.{belongs}
+use Rattle.watch_streams.specs.Difference.{belongs, settled}
 use Rattle.cluster_types.specs.Whole.{IsWholePolicy}
 use Rattle.watch_streams.specs.Laws.{HasAscendingMembers, HasGroupForm, IsMap, SnapshotsAreTheMap, ProjectionsAreMaps}
 use Rattle.watch_streams.specs.Names.{by_name}
 use Rattle.watch_streams.specs.Net.{MemberData, member_order}
 use Rattle.watch_streams.specs.Projection.{egress_is_on, egresses_on, group_members, group_object, members_on, net_egress, net_policy, on_addresses, on_applied, on_policies, policies_on, policy_groups, policy_is_on, pod_members, is_on}
 use Rattle.watch_streams.proofs.GroupForms.{policy_forms}
-use Rattle.watch_streams.proofs.Differences.{all_by_name, ascends_by_name, map_of_itself}
-use Rattle.watch_streams.proofs.Members.{ascends_members}
-use Rattle.watch_streams.proofs.OneOfAll.{all_of, all_append, all_flat_map, all_map}
+use Rattle.watch_streams.specs.MapLaws.{all_by_name, ascends_by_name, map_of_itself}
+use Rattle.watch_streams.proofs.Differences.{settled_same}
+use Rattle.watch_streams.specs.MemberOrder.{ascends_members}
+use Rattle.watch_streams.specs.OneOfAll.{all_of, all_append, all_flat_map, all_map}
 use Rattle.cl_types.specs.ListLaws.{filter_all, all_filter, all_weaker}
 
 -- ---- snapshots
 
+all_settled : (os : List StreamObject) → AllByRecursion HasAscendingMembers os → map settled os ≡ os
+all_settled [] up = refl
+all_settled (o ∷ os) up = ap (λ p. p ∷ map settled os) (settled_same o up.0) ∙ ap (λ ps. o ∷ ps) (all_settled os up.1)
+
 pub snapshots_are : SnapshotsAreTheMap
-snapshots_are s objects m = ap by_name (filter_all (belongs s) objects m.belong) ∙ map_of_itself objects m.ascends
+snapshots_are s objects m =
+    ap (λ os. by_name (map settled os)) (filter_all (belongs s) objects m.belong) ∙ ap by_name (all_settled objects m.members) ∙ map_of_itself objects m.ascends
 
 -- ---- the streams
 

@@ -13,6 +13,8 @@ use Rattle.watch_streams.specs.declared.message.StreamChange.{StreamChange}
 use Rattle.watch_streams.specs.declared.message.StreamChange.TheVariants as change
 use Rattle.watch_streams.specs.declared.net.NetEgress as egress
 use Rattle.watch_streams.specs.declared.net.NetPolicy as policy
+use Rattle.watch_streams.specs.declared.message.StreamName.{StreamName}
+use Rattle.watch_streams.specs.declared.message.StreamName.TheVariants as name
 use Rattle.watch_streams.specs.declared.message.StreamObject.{StreamObject}
 use Rattle.watch_streams.specs.declared.message.StreamObject.TheVariants as object
 use Rattle.watch_streams.specs.Names.{name_of, name_text, object_text, at_text, by_name}
@@ -63,17 +65,25 @@ difference old new = flat_map (λ text. changed (found (at_text text) old) (foun
 
 -- ---- a map after a message
 
+abbrev pub is_policies : Stream → Bool
+is_policies Policies = true
+is_policies Addresses = false
+is_policies Applied = false
+
 -- policies and Egresses stand on the one stream, groups on the others
+abbrev pub name_belongs : Stream → StreamName → Bool
+name_belongs s (name.Policy key) = is_policies s
+name_belongs s (name.Egress text) = is_policies s
+name_belongs s (name.Group group) = not (is_policies s)
+
 abbrev pub belongs : Stream → StreamObject → Bool
-belongs Policies (object.Policy p) = true
-belongs Policies (object.Egress e) = true
-belongs Policies (object.Group group members) = false
-belongs Addresses (object.Policy p) = false
-belongs Addresses (object.Egress e) = false
-belongs Addresses (object.Group group members) = true
-belongs Applied (object.Policy p) = false
-belongs Applied (object.Egress e) = false
-belongs Applied (object.Group group members) = true
+belongs s o = name_belongs s (name_of o)
+
+-- the object with a group's members as the set that they are
+abbrev pub settled : StreamObject → StreamObject
+settled (object.Policy p) = object.Policy p
+settled (object.Egress e) = object.Egress e
+settled (object.Group group members) = object.Group group (ascending_members members)
 
 -- without what stands under a name
 abbrev pub without : List ℕ → List StreamObject → List StreamObject
@@ -92,8 +102,8 @@ put_object s o held = if belongs s o then put (at_text (object_text o)) o held e
 
 -- what doesn't belong on the stream is passed over; a group that isn't held has no members
 abbrev pub after_change : Stream → StreamChange → List StreamObject → List StreamObject
-after_change s (change.Put o) held = put_object s o held
-after_change s (change.Remove n) held = without (name_text n) held
+after_change s (change.Put o) held = put_object s (settled o) held
+after_change s (change.Remove n) held = if name_belongs s n then without (name_text n) held else held
 after_change s (change.Patch group added removed) held =
     put_object s (object.Group group (patched (members_of (found (at_text (group_text group)) held)) added removed)) held
 
@@ -103,4 +113,4 @@ after_changes s (c ∷ changes) held = after_changes s changes (after_change s c
 
 -- the map of a snapshot's objects
 abbrev pub of_snapshot : Stream → List StreamObject → List StreamObject
-of_snapshot s objects = by_name (filter (belongs s) objects)
+of_snapshot s objects = by_name (map settled (filter (belongs s) objects))

@@ -1,8 +1,12 @@
+pub mod ChangeLaws
 pub mod Difference
 pub mod HeldEvaluation
 pub mod Laws
+pub mod MapLaws
+pub mod MemberOrder
 pub mod Names
 pub mod Net
+pub mod OneOfAll
 pub mod Ports
 pub mod Projection
 pub mod QueuePlaces

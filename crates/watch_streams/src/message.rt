@@ -105,6 +105,14 @@ impl Changes {
     {
         self.items.as_slice()
     }
+
+    /// The changes themselves.
+    pub fn into_list(self) -> List<StreamChange>
+        ensures value { result ≡ self }
+        ensures distinct { AreDistinct (map changed_name self) }
+    {
+        self.items
+    }
 }
 
 impl Copies for Changes {
@@ -145,6 +153,14 @@ impl Objects {
         ensures { result.now ≡ self.now }
     {
         self.items.as_slice()
+    }
+
+    /// The objects themselves.
+    pub fn into_list(self) -> List<StreamObject>
+        ensures value { result ≡ self }
+        ensures distinct { AreDistinct (map name_of self) }
+    {
+        self.items
     }
 }
 

@@ -1,12 +1,13 @@
 ghost use Rattle.std.proofs.Common.{rules};
 ghost use Rattle.std.proofs.lemmas.Grind.{common_steps};
 ghost use Rattle.std.specs.Prelude.{◌≡◌, IfOk, IsTrue, ◌↔◌};
+ghost use Rattle.watch_streams.specs.HeldEvaluation.{net_rule_key, net_rule_action};
 
 use cl_types::{
     Action, Addr, Copies, Keyed, List, NamedPort, NoMemory, PolicyKey, PortName, RuleKey, Same,
     Service, Text,
 };
-use cluster_types::Block;
+use cluster_types::{Block, Ruling};
 use label_select::GroupKey;
 use std::marker::Model;
 
@@ -49,6 +50,20 @@ impl Same for NetRule {
             && self.peers.same(&other.peers)
             && self.services.same(&other.services)
             && self.named.same(&other.named)
+    }
+}
+
+impl Ruling for NetRule {
+    ghost rule_key = { net_rule_key };
+
+    ghost rule_action = { net_rule_action };
+
+    fn rule_key(&self) -> &RuleKey {
+        &self.key
+    }
+
+    fn action(&self) -> Action {
+        self.action
     }
 }
 

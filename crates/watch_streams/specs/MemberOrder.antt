@@ -1,5 +1,5 @@
 -- The order of members is total and exact, and so is that of texts.
-use Rattle.std.proofs.Common.{◌≡◌, ℕ, eqb, if◌then◌else◌, refl, sym, ap, ◌∙◌}
+use Rattle.std.proofs.Common.{◌≡◌, ℕ, List, eqb, if◌then◌else◌, refl, sym, ap, ◌∙◌}
 use Rattle.std.specs.declared.cmp.Ordering.TheVariants.{Equal}
 use Rattle.std.specs.Ordering.{nat_cmp}
 use Rattle.std.specs.Cmp.{IsTotalOrder}
@@ -10,10 +10,12 @@ use Rattle.cl_types.specs.declared.addr.Addr.{Addr}
 use Rattle.cl_types.specs.declared.service.NamedPort.{NamedPort}
 use Rattle.cl_types.specs.declared.service.Proto.{Proto}
 use Rattle.cl_types.specs.declared.service.Proto.TheVariants.{Tcp, Udp, Sctp, Icmp}
+use Rattle.cl_types.specs.Ascending.{Ascends}
+use Rattle.cl_types.specs.AscendingLaws.{ascends_sorted}
 use Rattle.cl_types.specs.OrderLaws.{both_equal, text_order_exact}
 use Rattle.cl_types.specs.Addr.{addr_order, addr_order_total}
 use Rattle.cluster_types.specs.Pod.{port_order, proto_place}
-use Rattle.watch_streams.specs.Net.{MemberData, member_order, numbered_port_order}
+use Rattle.watch_streams.specs.Net.{MemberData, member_order, numbered_port_order, ascending_members}
 
 proto_exact : (a b : Proto) → proto_place a ≡ proto_place b → a ≡ b
 proto_exact a b e = sym (back a) ∙ ap proto_at e ∙ back b
@@ -52,3 +54,7 @@ member_exact addr_exact a b e =
     let address = addr_exact a.address b.address parts.0 in
     let ports = slice_cmp-IsAntisymmetric port_exact a.ports b.ports parts.1 in
     (λ i. record { address = address i; ports = ports i })
+
+-- members as a set ascend
+pub ascends_members : (ms : List MemberData) → Ascends (λ m. m) member_order (ascending_members ms)
+ascends_members = ascends_sorted (λ m. m) member_order_total

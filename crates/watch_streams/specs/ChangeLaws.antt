@@ -14,9 +14,9 @@ use Rattle.watch_streams.specs.declared.message.StreamChange.{StreamChange}
 use Rattle.watch_streams.specs.declared.message.StreamChange.TheVariants as change
 use Rattle.watch_streams.specs.declared.message.StreamObject.{StreamObject}
 use Rattle.watch_streams.specs.declared.message.StreamObject.TheVariants as object
-use Rattle.watch_streams.specs.Difference.{belongs, members_of, patched, put_object, without, after_change, after_changes}
+use Rattle.watch_streams.specs.Difference.{belongs, name_belongs, settled, members_of, patched, put_object, without, after_change, after_changes}
 use Rattle.cl_types.specs.Text.{text_order}
-use Rattle.watch_streams.specs.Names.{changed_name, name_text, object_text, at_text, AscendByName}
+use Rattle.watch_streams.specs.Names.{name_of, changed_name, name_text, object_text, at_text, AscendByName}
 use Rattle.watch_streams.specs.Net.{MemberData}
 use Rattle.cl_types.specs.AscendingLaws.{passed, ascends_filter, found_filter, found_at}
 use Rattle.cl_types.specs.AscendingLaws.{none_behind}
@@ -25,7 +25,7 @@ use Rattle.cl_types.specs.OrderLaws.{text_order_exact}
 abbrev pub change_text : StreamChange → List ℕ
 change_text c = name_text (changed_name c)
 
-abbrev put_cell : Stream → StreamObject → Option StreamObject → Option StreamObject
+abbrev pub put_cell : Stream → StreamObject → Option StreamObject → Option StreamObject
 put_cell s o x = if belongs s o then Some o else x
 
 abbrev pub patched_object : Group → Option StreamObject → List MemberData → List MemberData → StreamObject
@@ -33,15 +33,20 @@ patched_object group x added removed = object.Group group (patched (members_of x
 
 -- what stands at a change's name after it
 abbrev pub cell : Stream → StreamChange → Option StreamObject → Option StreamObject
-cell s (change.Put o) x = put_cell s o x
-cell s (change.Remove n) x = None
+cell s (change.Put o) x = put_cell s (settled o) x
+cell s (change.Remove n) x = if name_belongs s n then None else x
 cell s (change.Patch group added removed) x = put_cell s (patched_object group x added removed) x
 
 abbrev pub cells : Stream → List StreamChange → Option StreamObject → Option StreamObject
 cells s [] x = x
 cells s (c ∷ cs) x = cells s cs (cell s c x)
 
-either_way : {T : Type 0} (b : Bool) (x : T) → (if b then x else x) ≡ x
+pub settled_name : (o : StreamObject) → name_of (settled o) ≡ name_of o
+settled_name (object.Policy p) = refl
+settled_name (object.Egress e) = refl
+settled_name (object.Group group members) = refl
+
+pub either_way : {T : Type 0} (b : Bool) (x : T) → (if b then x else x) ≡ x
 either_way true x = refl
 either_way false x = refl
 
@@ -53,8 +58,12 @@ ascends_put_object s o held up = by_test (belongs s o)
     by_test false = up
 
 pub ascends_change : (s : Stream) (c : StreamChange) (held : List StreamObject) → AscendByName held → AscendByName (after_change s c held)
-ascends_change s (change.Put o) held up = ascends_put_object s o held up
-ascends_change s (change.Remove n) held up = ascends_filter object_text nat_list_cmp_total (λ o. not (is_eq (at_text (name_text n) o))) held up
+ascends_change s (change.Put o) held up = ascends_put_object s (settled o) held up
+ascends_change s (change.Remove n) held up = by_test (name_belongs s n)
+  where
+    by_test : (b : Bool) → AscendByName (if b then without (name_text n) held else held)
+    by_test true = ascends_filter object_text nat_list_cmp_total (λ o. not (is_eq (at_text (name_text n) o))) held up
+    by_test false = up
 ascends_change s (change.Patch group added removed) held up = ascends_put_object s (patched_object group (found (at_text (group_text group)) held) added removed) held up
 
 pub ascends_changes : (s : Stream) (cs : List StreamChange) (held : List StreamObject) → AscendByName held → AscendByName (after_changes s cs held)
@@ -94,10 +103,17 @@ found_without u t held up =
         let there : object_text o ≡ t = text_order_exact (object_text o) t (found_at (at_text t) held o e) in
         ap (λ b. if not b then Some o else None) (ap (λ z. is_eq (text_order z u)) there ∙ eq_back t u) ∙ turned (is_eq (text_order u t)) (Some o)
 
-found_change : (s : Stream) (c : StreamChange) (t : List ℕ) (held : List StreamObject) → AscendByName held
+pub found_change : (s : Stream) (c : StreamChange) (t : List ℕ) (held : List StreamObject) → AscendByName held
     → found (at_text t) (after_change s c held) ≡ (if is_eq (text_order (change_text c) t) then cell s c (found (at_text t) held) else found (at_text t) held)
-found_change s (change.Put o) t held up = found_put_object s o t held
-found_change s (change.Remove n) t held up = found_without (name_text n) t held up
+found_change s (change.Put o) t held up =
+    found_put_object s (settled o) t held
+    ∙ ap (λ n. if is_eq (text_order (name_text n) t) then put_cell s (settled o) (found (at_text t) held) else found (at_text t) held) (settled_name o)
+found_change s (change.Remove n) t held up = by_test (name_belongs s n) (found_without (name_text n) t held up)
+  where
+    by_test : (b : Bool) → found (at_text t) (without (name_text n) held) ≡ (if is_eq (text_order (name_text n) t) then None else found (at_text t) held)
+        → found (at_text t) (if b then without (name_text n) held else held) ≡ (if is_eq (text_order (name_text n) t) then (if b then None else found (at_text t) held) else found (at_text t) held)
+    by_test true rest = rest
+    by_test false rest = sym (either_way (is_eq (text_order (name_text n) t)) (found (at_text t) held))
 found_change s (change.Patch group added removed) t held up =
     found_put_object s (there (group_text group)) t held ∙ by_order (text_order (group_text group) t) refl
   where

@@ -1,0 +1,34 @@
+-- Who is in a group (Kubernetes NetworkPolicy v1: pod and namespace selectors; Antrea's address groups).
+use Rattle.std.specs.Prelude.{ℕ, List, Bool}
+use Rattle.std.specs.Ordering.{is_eq}
+use Rattle.cl_types.specs.declared.addr.Addr.{Addr}
+use Rattle.cl_types.specs.declared.keys.PodKey.{PodKey}
+use Rattle.cl_types.specs.declared.service.NamedPort.{NamedPort}
+use Rattle.cl_types.specs.Addr.{addr_order}
+use Rattle.cl_types.specs.Ascending.{sorted_by}
+use Rattle.cl_types.specs.RuleOrder.{pod_order}
+use Rattle.label_select.specs.Group.{Group}
+use Rattle.cluster_types.specs.Pod.{PodData}
+use Rattle.cluster_types.specs.Cluster.{ClusterData}
+use Rattle.group_index.specs.Gathered.{members_by}
+
+-- an address of a pod, with what is told of the pod
+pub record MemberData : Type 0 where
+  pub address : Addr
+  pub node : List ℕ
+  pub pod : PodKey
+  pub ports : List NamedPort
+
+abbrev pub member_of : PodData → Addr → MemberData
+member_of p a = record { address = a; node = p.node; pod = p.key; ports = p.ports }
+
+-- the member is an address of the pod
+abbrev pub is_of : PodKey → MemberData → Bool
+is_of pod m = is_eq (pod_order m.pod pod)
+
+abbrev pub by_address : List MemberData → List MemberData
+by_address = sorted_by (λ (m : MemberData). m.address) addr_order
+
+-- the members of the group at the cluster, by address
+unfoldable pub members_of : ClusterData → Group → List MemberData
+members_of c g = by_address (members_by member_of c g)

@@ -1,0 +1,174 @@
+ghost use Rattle.std.specs.Prelude.{◌≡◌, ◌++◌, ◌↔◌, ◌≤◌, ◌==◌, IsTrue, IfOk, OnOk, OnErr, IfSome, IfNone};
+ghost use Rattle.std.specs.List.{AllByRecursion};
+ghost use Rattle.cl_types.specs.Ascending.{IsPlace, found};
+ghost use Rattle.label_select.specs.Group.{IsGroup};
+ghost use Rattle.label_select.specs.Written.{group_text};
+ghost use Rattle.group_index.specs.Changes.{entry_at, group_change};
+ghost use Rattle.group_index.specs.Index.{IsOther, StandsAt, IsIndex, at_group, entry_of, first_use, group_if_has, has_pod, used_again, used_less};
+
+use crate::change::{GroupChange, push_change};
+use crate::gather::members_of;
+use crate::member::Member;
+use cl_types::{Copies, Keyed, List, NoMemory, PodKey, Same, Text};
+use cluster_objects::Cluster;
+use label_select::{GroupKey, group_form, group_texts_differ, write_group};
+use std::alloc::Global;
+use std::marker::Model;
+
+/// A group in use, with its text, how often it is used, and its members.
+#[derive(Debug, Drop)]
+pub(crate) struct Entry {
+    text: Text,
+    group: GroupKey,
+    uses: u64,
+    members: List<Member>,
+}
+
+impl Model for Entry {
+    ghost use Rattle.group_index.specs.Index.{EntryData, IsEntry};
+
+    ghost Value = { EntryData };
+
+    ghost view = { λ e. record { group = e.group; uses = e.uses; members = e.members } };
+
+    ghost invariant = { λ e. IsEntry e.text e.group e.uses };
+}
+
+impl Keyed for Entry {
+    type Key = Text;
+
+    ghost key = { λ e. group_text e.group };
+
+    fn key(&self) -> &Text {
+        &self.text
+    }
+}
+
+impl Entry {
+    /// The group at its first use.
+    pub(crate) fn first_use(alloc: Global, c: &Cluster, g: &GroupKey) -> Result<Entry, NoMemory>
+        ensures { IfOk result (λ e. e ≡ first_use c.now.cluster g.now) }
+    {
+        let mut text = Text::new(alloc);
+        write_group(&mut text, g)?;
+        Ok(Entry {
+            text,
+            group: g.copy()?,
+            uses: 1,
+            members: List::of(members_of(alloc, c, g)?),
+        })
+    }
+
+    /// One more use. Where they can't be counted it is as if out of memory.
+    pub(crate) fn use_again(&mut self) -> Result<(), NoMemory>
+        ensures ok { OnOk result (self.new ≡ used_again self.old) }
+        ensures err { OnErr result (self.new ≡ self.old) }
+        ensures group { self.new.group ≡ self.old.group }
+    {
+        if self.uses == u64::MAX {
+            return Err(NoMemory);
+        }
+        self.uses += 1;
+        Ok(())
+    }
+
+    // Whether it is the entry of the group. The form is that of every group.
+    fn is_of(&self, g: &GroupKey) -> bool
+        ensures answer { IsTrue result ↔ (self.now.group ≡ g.now) }
+        ensures form { IsGroup self.now.group }
+    {
+        group_form(&self.group);
+        self.group.same(g)
+    }
+
+    /// Whether it is used once and no more.
+    pub(crate) fn is_used_once(&self) -> bool
+        ensures once { result ≡ (self.now.uses == 1) }
+        ensures used { 1 ≤ self.now.uses }
+    {
+        self.uses == 1
+    }
+
+    /// Its members, by address.
+    pub(crate) fn members(&self) -> &List<Member>
+        ensures { result.now ≡ self.now.members }
+    {
+        &self.members
+    }
+
+    /// The group with its members at the cluster.
+    pub(crate) fn at(&self, alloc: Global, c: &Cluster) -> Result<Entry, NoMemory>
+        ensures { IfOk result (λ e. e ≡ entry_at c.now.cluster self.now) }
+    {
+        Ok(Entry {
+            text: self.text.copy()?,
+            group: self.group.copy()?,
+            uses: self.uses,
+            members: List::of(members_of(alloc, c, &self.group)?),
+        })
+    }
+
+    /// Appends the change to the group's members in the next entry, where they differ.
+    pub(crate) fn push_change(
+        &self,
+        changes: &mut Vec<GroupChange>,
+        next: &Entry,
+    ) -> Result<(), NoMemory>
+        ensures { OnOk result (changes.new.items ≡ changes.old.items ++ group_change self.now.group self.now.members next.now.members) }
+    {
+        push_change(changes, &self.group, &self.members, &next.members)
+    }
+
+    // Whether a member is of the pod.
+    fn has_pod(&self, pod: &PodKey) -> bool
+        ensures { result ≡ has_pod pod.now self.now }
+    {
+        self.members.as_slice().iter().any(|m| m.is_of(pod))
+    }
+
+    /// Appends the group, where it contains the pod.
+    pub(crate) fn push_if_has(
+        &self,
+        groups: &mut Vec<GroupKey>,
+        pod: &PodKey,
+    ) -> Result<(), NoMemory>
+        ensures { OnOk result (groups.new.items ≡ groups.old.items ++ group_if_has pod.now self.now) }
+    {
+        if self.has_pod(pod) {
+            groups.push(self.group.copy()?)?;
+        }
+        Ok(())
+    }
+
+    /// One use less, where there are more.
+    pub(crate) fn use_less(&mut self)
+        requires { 2 ≤ self.old.uses }
+        ensures { self.new ≡ used_less self.old }
+    {
+        self.uses -= 1;
+    }
+}
+
+// Where the group's entry stands.
+fn position_of(entries: &[Entry], g: &GroupKey) -> Option<usize>
+    ensures found { IfSome result (StandsAt g.now entries.now) }
+    ensures none { IfNone result (AllByRecursion (IsOther g.now) entries.now) }
+{
+    for i in 0..entries.len() {
+        if entries[i].is_of(g) {
+            return Some(i);
+        }
+    }
+    None
+}
+
+/// The place of the group's entry. It does not allocate.
+pub(crate) fn place_of(entries: &[Entry], g: &GroupKey) -> Option<usize>
+    requires { IsIndex entries.now }
+    ensures place { IfSome result (IsPlace (at_group g.now) entries.now) }
+    ensures none { IfNone result (entry_of entries.now g.now ≡ None) }
+{
+    group_form(g);
+    group_texts_differ();
+    position_of(entries, g)
+}

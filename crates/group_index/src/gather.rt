@@ -1,0 +1,66 @@
+ghost use Rattle.std.specs.Prelude.{◌≡◌, ◌++◌, [], map, if◌then◌else◌, IfOk, OnOk};
+ghost use Rattle.cluster_types.specs.Groups.{in_group};
+ghost use Rattle.group_index.specs.Gathered.{members_by};
+ghost use Rattle.group_index.specs.Members.{member_of, members_of};
+
+use crate::member::Member;
+use crate::sorted::sorted;
+use cl_types::{Addr, Copies, NoMemory};
+use cluster_objects::{Cluster, Pod};
+use label_select::GroupKey;
+use std::alloc::Global;
+
+fn member_of(pod: &Pod, address: Addr) -> Result<Member, NoMemory>
+    ensures { IfOk result (λ m. m ≡ member_of pod.now address) }
+{
+    Ok(Member {
+        address,
+        node: pod.node.copy()?,
+        pod: pod.key.copy()?,
+        ports: pod.ports.copy()?,
+    })
+}
+
+fn push_members(members: &mut Vec<Member>, pod: &Pod) -> Result<(), NoMemory>
+    ensures { OnOk result (members.new.items ≡ members.old.items ++ map (member_of pod.now) pod.now.addresses) }
+{
+    let addresses = pod.addresses.as_slice();
+    for a in addresses {
+        members.push(member_of(pod, *a)?)?;
+    }
+    Ok(())
+}
+
+fn push_if_in_group(
+    members: &mut Vec<Member>,
+    c: &Cluster,
+    g: &GroupKey,
+    pod: &Pod,
+) -> Result<(), NoMemory>
+    ensures { OnOk result (members.new.items ≡ members.old.items ++ (if in_group c.now.cluster g.now pod.now then map (member_of pod.now) pod.now.addresses else [])) }
+{
+    if c.in_group(g, pod) {
+        push_members(members, pod)?;
+    }
+    Ok(())
+}
+
+fn gathered(alloc: Global, c: &Cluster, g: &GroupKey) -> Result<Vec<Member>, NoMemory>
+    ensures { IfOk result (λ v. v.items ≡ members_by member_of c.now.cluster g.now) }
+{
+    let mut members = Vec::new(alloc);
+    let pods = c.pods();
+    for pod in pods {
+        push_if_in_group(&mut members, c, g, pod)?;
+    }
+    Ok(members)
+}
+
+/// The members of the group, by address.
+#[tactic(auto, unfolding(crate::specs::Members::members_of))]
+pub(crate) fn members_of(alloc: Global, c: &Cluster, g: &GroupKey) -> Result<Vec<Member>, NoMemory>
+    ensures { IfOk result (λ v. v.items ≡ members_of c.now.cluster g.now) }
+{
+    let members = gathered(alloc, c, g)?;
+    sorted(alloc, members)
+}

@@ -1,0 +1,216 @@
+ghost use Rattle.std.specs.Prelude.{◌≡◌, ◌++◌, [], Some, map, IfOk, OnOk, OnErr, IsSome, option_map, option_copied};
+ghost use Rattle.std.specs.List.{AllByRecursion, flat_map};
+ghost use Rattle.cl_types.specs.Ascending.{IsPlace};
+ghost use Rattle.cluster_types.specs.Cluster.{ClusterData, IsCluster};
+ghost use Rattle.group_index.specs.Changes.{at_cluster, before_namespace, before_pod, change_at, changes_between};
+ghost use Rattle.group_index.specs.Index.{EntryData, IsIndex, StandsFor, at_group, entry_of, group_nodes, groups_of, groups_with, span, with_use, without_use};
+ghost use Rattle.group_index.specs.Members.{MemberData};
+ghost use Rattle.label_select.specs.Group.{Group};
+
+use crate::change::GroupChange;
+use crate::entry::{Entry, place_of};
+use crate::member::Member;
+use crate::sorted::sorted;
+use crate::turn::turned;
+use cl_types::{Copies, List, NoMemory, PodKey, Text, put};
+use cluster_objects::{Cluster, Namespace, Pod};
+use label_select::GroupKey;
+use std::alloc::Global;
+use std::marker::Model;
+
+/// The groups that are in use, in the order of their texts, with how often each is used and its members.
+#[derive(Debug, Drop)]
+pub struct GroupIndex {
+    entries: Vec<Entry>,
+}
+
+impl Model for GroupIndex {
+    ghost use Rattle.std.specs.Prelude.{List as Items};
+    ghost use Rattle.group_index.specs.Index.{EntryData, IsIndex};
+
+    ghost Value = { Items EntryData };
+
+    ghost view = { λ index. index.entries.items };
+
+    ghost invariant = { λ index. IsIndex index.entries.items };
+}
+
+// Appends the members' nodes.
+fn push_nodes(nodes: &mut Vec<Text>, members: &[Member]) -> Result<(), NoMemory>
+    ensures { OnOk result (nodes.new.items ≡ nodes.old.items ++ map (λ (m : MemberData). m.node) members.now) }
+{
+    for m in members {
+        nodes.push(m.node.copy()?)?;
+    }
+    Ok(())
+}
+
+// One use less of the group at a place.
+fn drop_at(entries: &mut Vec<Entry>, g: &GroupKey, i: usize)
+    requires ascends { IsIndex entries.old.items }
+    requires place { IsPlace (at_group g.now) entries.old.items i }
+    ensures entries { entries.new.items ≡ without_use g.now entries.old.items }
+    ensures ascends { IsIndex entries.new.items }
+{
+    if entries[i].is_used_once() {
+        entries.remove(i);
+        return;
+    }
+    entries[i].use_less();
+}
+
+impl GroupIndex {
+    /// No group in use.
+    pub fn new(alloc: Global) -> Result<GroupIndex, NoMemory>
+        ensures { IfOk result (λ index. index ≡ []) }
+    {
+        Ok(GroupIndex {
+            entries: Vec::new(alloc),
+        })
+    }
+
+    /// Tells that the groups in use ascend by their texts. It does nothing else.
+    pub fn keeps_its_form(&self)
+        ensures { IsIndex self.now }
+    {
+        let _ = &self.entries;
+    }
+
+    /// One more use of the group. At its first use it gets its members.
+    pub fn put_group(&mut self, c: &Cluster, g: &GroupKey) -> Result<(), NoMemory>
+        requires { StandsFor self.old c.now.cluster }
+        ensures ok { OnOk result (self.new ≡ with_use c.now.cluster g.now self.old) }
+        ensures stands { StandsFor self.new c.now.cluster }
+        ensures err { OnErr result (self.new ≡ self.old) }
+    {
+        match place_of(self.entries.as_slice(), g) {
+            Some(i) => self.entries[i].use_again(),
+            None => {
+                let entry = Entry::first_use(*self.entries.allocator(), c, g)?;
+                put(&mut self.entries, entry)
+            }
+        }
+    }
+
+    /// One use of the group less. After its last use it is gone. It does not allocate.
+    pub fn drop_group(&mut self, g: &GroupKey)
+        requires { IsSome (entry_of self.old g.now) }
+        ensures index { self.new ≡ without_use g.now self.old }
+        ensures stands { (c : ClusterData) → StandsFor self.old c → StandsFor self.new c }
+    {
+        if let Some(i) = place_of(self.entries.as_slice(), g) {
+            drop_at(&mut self.entries, g, i);
+        }
+    }
+
+    // Finds the members of all groups in use anew.
+    fn turn_to(&mut self, c: &Cluster) -> Result<List<GroupChange>, NoMemory>
+        ensures index { OnOk result (self.new ≡ at_cluster c.now.cluster self.old) }
+        ensures changes { IfOk result (λ changes. changes ≡ flat_map (change_at c.now.cluster) self.old) }
+        ensures err { OnErr result (self.new ≡ self.old) }
+    {
+        let alloc = *self.entries.allocator();
+        let turn = turned(alloc, self.entries.as_slice(), c)?;
+        self.entries = turn.entries;
+        Ok(List::of(turn.changes))
+    }
+
+    /// Follows a pod that changed, came (without `old`) or went (without `new`), and answers what changed in the groups
+    /// in use.
+    pub fn pod_changed(
+        &mut self,
+        c: &Cluster,
+        old: Option<&Pod>,
+        new: Option<&Pod>,
+    ) -> Result<List<GroupChange>, NoMemory>
+        requires { StandsFor self.old (before_pod (option_copied old) (option_copied new) c.now.cluster) }
+        ensures changes { IfOk result (λ changes. changes ≡ changes_between (before_pod (option_copied old.entry) (option_copied new.entry) c.now.cluster) c.now.cluster self.old) }
+        ensures index { OnOk result (self.new ≡ at_cluster c.now.cluster self.old) }
+        ensures stands { OnOk result (StandsFor self.new c.now.cluster) }
+        ensures err { OnErr result (self.new ≡ self.old) }
+    {
+        self.turn_to(c)
+    }
+
+    /// Follows a namespace whose labels changed, that came (without `old`) or that went, and answers what changed in the
+    /// groups in use.
+    pub fn namespace_changed(
+        &mut self,
+        c: &Cluster,
+        old: Option<&Namespace>,
+        name: &Text,
+    ) -> Result<List<GroupChange>, NoMemory>
+        requires { StandsFor self.old (before_namespace (option_copied old) name.now c.now.cluster) }
+        ensures changes { IfOk result (λ changes. changes ≡ changes_between (before_namespace (option_copied old.entry) name.now c.now.cluster) c.now.cluster self.old) }
+        ensures index { OnOk result (self.new ≡ at_cluster c.now.cluster self.old) }
+        ensures stands { OnOk result (StandsFor self.new c.now.cluster) }
+        ensures err { OnErr result (self.new ≡ self.old) }
+    {
+        self.turn_to(c)
+    }
+
+    /// The groups in use that contain the pod, by their texts.
+    pub fn groups_of(&self, pod: &PodKey) -> Result<List<GroupKey>, NoMemory>
+        ensures index { IfOk result (λ groups. groups ≡ groups_of self.now pod.now) }
+        ensures pods { (c : ClusterData) → IsCluster c → StandsFor self.now c → IfOk result (λ groups. groups ≡ groups_with c pod.now (map (λ (e : EntryData). e.group) self.now)) }
+    {
+        self.groups_having(pod)
+    }
+
+    // The groups with a member that is of the pod.
+    #[tactic(auto, unfolding(crate::specs::Index::groups_of))]
+    fn groups_having(&self, pod: &PodKey) -> Result<List<GroupKey>, NoMemory>
+        ensures { IfOk result (λ groups. groups ≡ groups_of self.now pod.now) }
+    {
+        let mut groups = Vec::new(*self.entries.allocator());
+        let entries = self.entries.as_slice();
+        for entry in entries {
+            entry.push_if_has(&mut groups, pod)?;
+        }
+        Ok(List::of(groups))
+    }
+
+    /// The nodes of the members of these groups, by name, without a repeat. One that isn't listed may be among them.
+    #[tactic(auto, unfolding(crate::specs::Index::span))]
+    pub fn span(&self, applied: &List<GroupKey>) -> Result<List<Text>, NoMemory>
+        requires { AllByRecursion (λ (g : Group). IsSome (entry_of self.now g)) applied.now }
+        ensures { IfOk result (λ nodes. nodes ≡ span self.now applied.now) }
+    {
+        let alloc = *self.entries.allocator();
+        let nodes = self.nodes_of(alloc, applied.as_slice())?;
+        Ok(List::of(sorted(alloc, nodes)?))
+    }
+
+    // The nodes of the members of these groups, one after the other.
+    fn nodes_of(&self, alloc: Global, applied: &[GroupKey]) -> Result<Vec<Text>, NoMemory>
+        ensures { IfOk result (λ nodes. nodes.items ≡ flat_map (group_nodes self.now) applied.now) }
+    {
+        let mut nodes = Vec::new(alloc);
+        for g in applied {
+            self.push_group_nodes(&mut nodes, g)?;
+        }
+        Ok(nodes)
+    }
+
+    fn push_group_nodes(&self, nodes: &mut Vec<Text>, g: &GroupKey) -> Result<(), NoMemory>
+        ensures { OnOk result (nodes.new.items ≡ nodes.old.items ++ group_nodes self.now g.now) }
+    {
+        match self.members(g) {
+            Some(members) => push_nodes(nodes, members.as_slice()),
+            None => Ok(()),
+        }
+    }
+
+    /// The members of a group in use, by address. It does not allocate.
+    pub fn members(&self, g: &GroupKey) -> Option<&List<Member>>
+        ensures { option_copied result ≡ option_map (λ (e : EntryData). e.members) (entry_of self.now g.now) }
+    {
+        match place_of(self.entries.as_slice(), g) {
+            Some(i) => Some(self.entries[i].members()),
+            None => None,
+        }
+    }
+}
+
+#[cfg(test)]
+mod tests;

@@ -1,0 +1,10 @@
+pub mod FirstHeld
+pub mod GroupPlaces
+pub mod LeadingOn
+pub mod Picked
+pub mod PolicyMaps
+pub mod ReadyLaws
+pub mod RowEdits
+pub mod Shelves
+pub mod StepLaws
+pub mod StepLists

@@ -1,0 +1,7 @@
+use Rattle.std.proofs.Common.{drop}
+use Rattle.std.specs.List.{AllByRecursion}
+use Rattle.held_maps.specs.Steps.{HasChangeForm}
+use Rattle.held_maps.proofs.message_steps.changes_form.Given as goal
+
+abbrev pub invariant-loop-i : goal.invariant-loop-i
+invariant-loop-i l = AllByRecursion HasChangeForm (drop l.i l.changes)

@@ -1,0 +1,6 @@
+pub mod Held
+pub mod Laws
+pub mod Ready
+pub mod Rows
+pub mod Shelf
+pub mod Steps
