@@ -91,6 +91,10 @@ namespaces_kept c namespaces is was =
       parts = record { nodes = was.parts.nodes; namespaces = is.parts; pods = was.parts.pods; policies = was.parts.policies; egresses = was.parts.egresses };
     }
 
+-- the nodes may be fixed
+pub nodes_fixed : (c : ClusterData) → IsCluster c → IsCluster (record c { fixed = true })
+nodes_fixed c was = namespaces_kept c c.namespaces (record { up = was.namespaces_ascend; few = was.limits.namespaces; parts = was.parts.namespaces }) was
+
 -- pods that a cluster may have
 pub record ArePods (c : ClusterData) (pods : List PodData) : Type 0 where
   pub up : Ascends (λ (p : PodData). p.key) pod_order pods

@@ -100,6 +100,10 @@ without_tier (Some t) tiers = removed (at_tier t.priority) tiers
 abbrev pub with_nodes : ClusterData → List NodeData → ClusterData
 with_nodes c nodes = record c { nodes = nodes }
 
+-- the cluster with its nodes fixed
+abbrev pub fixed_nodes : ClusterData → ClusterData
+fixed_nodes c = record c { fixed = true }
+
 -- the object stands at its key; one of another kind than Node fixes the nodes
 abbrev pub with_object : ClusterData → Object → Outcome
 with_object c (object.Node n) = leaves (placed (is_same node.the_code) (at_node n.name) n c.nodes) (with_nodes c)

@@ -65,6 +65,7 @@ fn tier(alloc: Global, name: &[u8], priority: u16) -> Result<Tier, NoMemory>
 
 impl Cluster {
     ghost use Rattle.cluster_objects.specs.Addresses.{pod_at, IsOnlyPodAt};
+    ghost use Rattle.cluster_objects.specs.Apply.{fixed_nodes};
     ghost use Rattle.cluster_types.specs.Cluster.{no_objects, IsState};
     ghost use Rattle.cluster_types.specs.Groups.{in_group, ns_labels};
     ghost use Rattle.cluster_types.specs.Pod.{counts, has_address};
@@ -106,6 +107,13 @@ impl Cluster {
         ensures { IsState self.now }
     {
         let _ = &self.fixed;
+    }
+
+    /// From now on no node can come, change or go.
+    pub fn fix_nodes(&mut self)
+        ensures { self.new.cluster ≡ fixed_nodes self.old.cluster }
+    {
+        self.fixed = true;
     }
 
     /// The nodes, by name.

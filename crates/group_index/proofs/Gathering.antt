@@ -6,8 +6,7 @@ use Rattle.std.proofs.lemmas.Grind.{flat_map-append}
 use Rattle.label_select.specs.Group.{Group}
 use Rattle.cluster_types.specs.Pod.{PodData}
 use Rattle.cluster_types.specs.Cluster.{ClusterData}
-use Rattle.cluster_types.specs.Groups.{in_group}
-use Rattle.group_index.specs.Gathered.{members_by}
+use Rattle.cluster_types.specs.Groups.{in_group, members_by}
 use Rattle.group_index.specs.Members.{MemberData, member_of}
 
 -- the pod's members, where the group contains it

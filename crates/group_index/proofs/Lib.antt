@@ -4,3 +4,6 @@ pub mod Places
 pub mod Uses
 pub mod Turns
 pub mod Unchanged
+pub mod Settling
+pub mod Concerns
+pub mod Standing

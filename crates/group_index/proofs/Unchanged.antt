@@ -16,7 +16,7 @@ or_true true = refl
 or_true false = refl
 
 -- each member of a list is among them
-all_there : (ms : List MemberData) → AllByRecursion (λ m. has_member ms m ≡ true) ms
+pub all_there : (ms : List MemberData) → AllByRecursion (λ m. has_member ms m ≡ true) ms
 all_there [] = tt
 all_there (m ∷ ms) = (
   ap (λ b. b || has_member ms m) (is_same-itself member.the_code m),

@@ -1,6 +1,6 @@
 -- A group without a change has the same members.
-use Rattle.std.proofs.Common.{◌≡◌, List, [], ◌∷◌, Bool, true, false, ◌||◌, not, filter, cond, Option, Some, None, refl, sym, ap, subst, ◌∙◌}
-use Rattle.std.specs.List.{AllByRecursion, list_any}
+use Rattle.std.proofs.Common.{◌≡◌, List, [], ◌∷◌, Bool, true, false, ◌||◌, not, cond, Option, Some, None, refl, sym, subst, ◌∙◌}
+use Rattle.std.specs.List.{AllByRecursion}
 use Rattle.std.specs.declared.cmp.Ordering.{Ordering}
 use Rattle.std.specs.declared.cmp.Ordering.TheVariants.{Less}
 use Rattle.cl_types.specs.declared.addr.Addr.{Addr}
@@ -12,9 +12,8 @@ use Rattle.cl_types.specs.EqualityLaws.{is_same-one}
 use Rattle.cl_types.specs.OrderLaws.{addr_order_exact}
 use Rattle.label_select.specs.Group.{Group}
 use Rattle.cluster_types.specs.Cluster.{ClusterData}
-use Rattle.group_index.specs.Gathered.{members_by}
+use Rattle.cluster_types.specs.Groups.{members_by}
 use Rattle.group_index.specs.declared.member.Member as member
-use Rattle.group_index.specs.declared.change.GroupChange.{GroupChange}
 use Rattle.group_index.specs.Changes.{change_if_any, group_change, has_member, members_without}
 use Rattle.group_index.specs.Members.{MemberData, member_of, members_of}
 
@@ -37,7 +36,7 @@ each_there others (m ∷ ms) e = by_test (has_member others m) refl (each_there 
     by_test false is later rest = absurd (not_empty m (members_without ms others) rest)
 
 -- a member of an ascending list is found at its address
-found_member : (ms : List MemberData) (m : MemberData) → Ascends address_of addr_order ms → has_member ms m ≡ true → found (at m.address) ms ≡ Some m
+pub found_member : (ms : List MemberData) (m : MemberData) → Ascends address_of addr_order ms → has_member ms m ≡ true → found (at m.address) ms ≡ Some m
 found_member [] m up h = cc
 found_member (n ∷ ns) m up h = by_test (is_same member.the_code m n) refl (found_member ns m up.1) h
   where
@@ -66,7 +65,7 @@ nothing_changed g [] [] e = (refl, refl)
 nothing_changed g [] (r ∷ rs) e = absurd (not_empty _ _ e)
 nothing_changed g (x ∷ xs) removed e = absurd (not_empty _ _ e)
 
-members_ascend : (c : ClusterData) (g : Group) → Ascends address_of addr_order (members_of c g)
+pub members_ascend : (c : ClusterData) (g : Group) → Ascends address_of addr_order (members_of c g)
 unfolding members_of
 members_ascend c g = ascends_sorted address_of addr_order_total (members_by member_of c g)
 

@@ -12,7 +12,7 @@ use Rattle.label_select.specs.Written.{group_text}
 use Rattle.cluster_types.specs.Cluster.{ClusterData}
 use Rattle.cluster_types.specs.Groups.{in_group}
 use Rattle.cluster_types.specs.Pod.{PodData}
-use Rattle.group_index.specs.Members.{MemberData, is_of, members_of}
+use Rattle.group_index.specs.Members.{MemberData, is_member_on, is_of, members_of}
 
 -- a group in use: how often, and its members
 pub record EntryData : Type 0 where
@@ -95,6 +95,14 @@ contains_pod c key g = list_any (is_pod_in c g key) c.pods
 -- the groups that contain the pod at the cluster
 abbrev pub groups_with : ClusterData → PodKey → List Group → List Group
 groups_with c key groups = filter (contains_pod c key) groups
+
+abbrev pub members_in : Option EntryData → List MemberData
+members_in (Some e) = e.members
+members_in None = []
+
+-- a member of the group, where it is in use, is on the node
+abbrev pub has_node : List EntryData → Group → List ℕ → Bool
+has_node index g node = list_any (is_member_on node) (members_in (entry_of index g))
 
 abbrev pub nodes_of : Option EntryData → List (List ℕ)
 nodes_of (Some e) = map (λ (m : MemberData). m.node) e.members

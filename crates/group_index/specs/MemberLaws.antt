@@ -23,10 +23,9 @@ use Rattle.cl_types.specs.Text.{text_eq}
 use Rattle.label_select.specs.Group.{Group}
 use Rattle.cluster_types.specs.Pod.{PodData, AreAddresses, counts, has_address, has_some}
 use Rattle.cluster_types.specs.Cluster.{ClusterData, AreApart, AllApart, IsCluster}
-use Rattle.cluster_types.specs.Groups.{in_group}
-use Rattle.group_index.specs.Gathered.{members_by}
+use Rattle.cluster_types.specs.Groups.{in_group, members_by}
 use Rattle.cluster_types.specs.Whole.{IsWholePod}
-use Rattle.group_index.specs.Members.{MemberData, by_address, is_of, member_of, members_of}
+use Rattle.group_index.specs.Members.{MemberData, by_address, is_member_on, is_of, member_of, members_of}
 use Rattle.group_index.specs.Index.{EntryData, StandsFor, contains_pod, group_if_has, groups_of, groups_with, is_pod_in}
 
 -- the member has another address
@@ -213,10 +212,6 @@ module _ (keep : MemberData → Bool) where
       by_test : (b : Bool) → AllElsewhere (filter keep ms) → AllElsewhere (cond b (m ∷ filter keep ms) (filter keep ms))
       by_test true rest = (all_filter (IsElsewhere m.address) keep ms apart.0, rest)
       by_test false rest = rest
-
--- a member is on its pod's node
-abbrev pub is_member_on : List ℕ → MemberData → Bool
-is_member_on node m = text_eq m.node node
 
 module _ (node : List ℕ) where
   filter_all : (p : PodData) (b : Bool) → text_eq p.node node ≡ b → (addresses : List Addr) (rest : List MemberData)

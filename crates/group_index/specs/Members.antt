@@ -7,10 +7,11 @@ use Rattle.cl_types.specs.declared.service.NamedPort.{NamedPort}
 use Rattle.cl_types.specs.Addr.{addr_order}
 use Rattle.cl_types.specs.Ascending.{sorted_by}
 use Rattle.cl_types.specs.RuleOrder.{pod_order}
+use Rattle.cl_types.specs.Text.{text_eq}
 use Rattle.label_select.specs.Group.{Group}
 use Rattle.cluster_types.specs.Pod.{PodData}
 use Rattle.cluster_types.specs.Cluster.{ClusterData}
-use Rattle.group_index.specs.Gathered.{members_by}
+use Rattle.cluster_types.specs.Groups.{members_by}
 
 -- an address of a pod, with what is told of the pod
 pub record MemberData : Type 0 where
@@ -25,6 +26,10 @@ member_of p a = record { address = a; node = p.node; pod = p.key; ports = p.port
 -- the member is an address of the pod
 abbrev pub is_of : PodKey → MemberData → Bool
 is_of pod m = is_eq (pod_order m.pod pod)
+
+-- the member is on the node
+abbrev pub is_member_on : List ℕ → MemberData → Bool
+is_member_on node m = text_eq m.node node
 
 abbrev pub by_address : List MemberData → List MemberData
 by_address = sorted_by (λ (m : MemberData). m.address) addr_order

@@ -1,17 +1,20 @@
-ghost use Rattle.std.specs.Prelude.{◌≡◌, ◌++◌, ◌↔◌, ◌≤◌, ◌==◌, IsTrue, IfOk, OnOk, OnErr, IfSome, IfNone};
+ghost use Rattle.std.specs.Prelude.{◌≡◌, ◌++◌, ◌↔◌, ◌≤◌, ◌==◌, unwrap_or, IsTrue, IfOk, OnOk, OnErr, IfSome, IfNone};
 ghost use Rattle.std.specs.List.{AllByRecursion};
 ghost use Rattle.cl_types.specs.Ascending.{IsPlace, found};
 ghost use Rattle.label_select.specs.Group.{IsGroup};
 ghost use Rattle.label_select.specs.Written.{group_text};
-ghost use Rattle.group_index.specs.Changes.{entry_at, group_change};
+ghost use Rattle.group_index.specs.Changes.{change_at};
 ghost use Rattle.group_index.specs.Index.{IsOther, StandsAt, IsIndex, at_group, entry_of, first_use, group_if_has, has_pod, used_again, used_less};
+ghost use Rattle.group_index.specs.Members.{members_of};
+ghost use Rattle.group_index.specs.Settled.{MovesAt, settled};
 
-use crate::change::{GroupChange, push_change};
+use crate::change::GroupChange;
 use crate::gather::members_of;
 use crate::member::Member;
-use cl_types::{Copies, Keyed, List, NoMemory, PodKey, Same, Text};
+use crate::settle::draft_of;
+use cl_types::{Addr, Copies, Keyed, List, NoMemory, PodKey, Same, Text};
 use cluster_objects::Cluster;
-use label_select::{GroupKey, group_form, group_texts_differ, write_group};
+use label_select::{GroupKey, Scope, group_form, group_texts_differ, write_group};
 use std::alloc::Global;
 use std::marker::Model;
 
@@ -96,27 +99,31 @@ impl Entry {
         &self.members
     }
 
-    /// The group with its members at the cluster.
-    pub(crate) fn at(&self, alloc: Global, c: &Cluster) -> Result<Entry, NoMemory>
-        ensures { IfOk result (λ e. e ≡ entry_at c.now.cluster self.now) }
-    {
-        Ok(Entry {
-            text: self.text.copy()?,
-            group: self.group.copy()?,
-            uses: self.uses,
-            members: List::of(members_of(alloc, c, &self.group)?),
-        })
-    }
-
-    /// Appends the change to the group's members in the next entry, where they differ.
-    pub(crate) fn push_change(
+    /// Appends what changes in the group where its members differ at these addresses alone, and answers the new ones.
+    pub(crate) fn draft(
         &self,
         changes: &mut Vec<GroupChange>,
-        next: &Entry,
-    ) -> Result<(), NoMemory>
-        ensures { OnOk result (changes.new.items ≡ changes.old.items ++ group_change self.now.group self.now.members next.now.members) }
+        c: &Cluster,
+        named: &[Addr],
+        others: &[Addr],
+    ) -> Result<Option<List<Member>>, NoMemory>
+        requires { MovesAt named.now others.now c.now.cluster self.now }
+        ensures changes { OnOk result (changes.new.items ≡ changes.old.items ++ change_at c.now.cluster self.now) }
+        ensures draft { IfOk result (λ d. unwrap_or d self.now.members ≡ members_of c.now.cluster self.now.group) }
     {
-        push_change(changes, &self.group, &self.members, &next.members)
+        match &self.group.scope {
+            Scope::Namespace(_) => draft_of(changes, c, &self.group, &self.members, named),
+            Scope::Namespaces(_) => draft_of(changes, c, &self.group, &self.members, others),
+        }
+    }
+
+    /// Gives the group the members of its draft, where it has one. It does not allocate.
+    pub(crate) fn settle(&mut self, draft: Option<List<Member>>)
+        ensures { self.new ≡ settled draft self.old }
+    {
+        if let Some(members) = draft {
+            self.members = members;
+        }
     }
 
     // Whether a member is of the pod.

@@ -1,6 +1,5 @@
 ghost use Rattle.std.specs.Prelude.{◌≡◌, ◌++◌, [], map, if◌then◌else◌, IfOk, OnOk};
-ghost use Rattle.cluster_types.specs.Groups.{in_group};
-ghost use Rattle.group_index.specs.Gathered.{members_by};
+ghost use Rattle.cluster_types.specs.Groups.{in_group, members_by};
 ghost use Rattle.group_index.specs.Members.{member_of, members_of};
 
 use crate::member::Member;
@@ -10,7 +9,7 @@ use cluster_objects::{Cluster, Pod};
 use label_select::GroupKey;
 use std::alloc::Global;
 
-fn member_of(pod: &Pod, address: Addr) -> Result<Member, NoMemory>
+pub(crate) fn member_of(pod: &Pod, address: Addr) -> Result<Member, NoMemory>
     ensures { IfOk result (λ m. m ≡ member_of pod.now address) }
 {
     Ok(Member {

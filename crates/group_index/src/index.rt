@@ -1,18 +1,20 @@
 ghost use Rattle.std.specs.Prelude.{◌≡◌, ◌++◌, [], Some, map, IfOk, OnOk, OnErr, IsSome, option_map, option_copied};
-ghost use Rattle.std.specs.List.{AllByRecursion, flat_map};
+ghost use Rattle.std.specs.List.{AllByRecursion, flat_map, list_any};
 ghost use Rattle.cl_types.specs.Ascending.{IsPlace};
 ghost use Rattle.cluster_types.specs.Cluster.{ClusterData, IsCluster};
 ghost use Rattle.group_index.specs.Changes.{at_cluster, before_namespace, before_pod, change_at, changes_between};
-ghost use Rattle.group_index.specs.Index.{EntryData, IsIndex, StandsFor, at_group, entry_of, group_nodes, groups_of, groups_with, span, with_use, without_use};
-ghost use Rattle.group_index.specs.Members.{MemberData};
+ghost use Rattle.group_index.specs.Index.{EntryData, IsIndex, StandsFor, at_group, entry_of, group_nodes, groups_of, groups_with, has_node, span, with_use, without_use};
+ghost use Rattle.group_index.specs.Members.{MemberData, is_member_on};
+ghost use Rattle.group_index.specs.Settled.{MovesAt};
 ghost use Rattle.label_select.specs.Group.{Group};
 
 use crate::change::GroupChange;
+use crate::concern::{namespace_addresses, pod_addresses};
+use crate::draft::{drafted, settle};
 use crate::entry::{Entry, place_of};
 use crate::member::Member;
 use crate::sorted::sorted;
-use crate::turn::turned;
-use cl_types::{Copies, List, NoMemory, PodKey, Text, put};
+use cl_types::{Addr, Copies, List, NoMemory, PodKey, Text, put};
 use cluster_objects::{Cluster, Namespace, Pod};
 use label_select::GroupKey;
 use std::alloc::Global;
@@ -43,6 +45,13 @@ fn push_nodes(nodes: &mut Vec<Text>, members: &[Member]) -> Result<(), NoMemory>
         nodes.push(m.node.copy()?)?;
     }
     Ok(())
+}
+
+// Whether one of the members is on the node.
+fn any_on(members: &[Member], node: &Text) -> bool
+    ensures { result ≡ list_any (is_member_on node.now) members.now }
+{
+    members.iter().any(|m| m.is_on(node))
 }
 
 // One use less of the group at a place.
@@ -103,20 +112,26 @@ impl GroupIndex {
         }
     }
 
-    // Finds the members of all groups in use anew.
-    fn turn_to(&mut self, c: &Cluster) -> Result<List<GroupChange>, NoMemory>
+    // Moves the members of every group in use: at some addresses where its scope is one namespace, else at the others.
+    fn settle_at(
+        &mut self,
+        c: &Cluster,
+        named: &[Addr],
+        others: &[Addr],
+    ) -> Result<List<GroupChange>, NoMemory>
+        requires { AllByRecursion (MovesAt named.now others.now c.now.cluster) self.old }
         ensures index { OnOk result (self.new ≡ at_cluster c.now.cluster self.old) }
         ensures changes { IfOk result (λ changes. changes ≡ flat_map (change_at c.now.cluster) self.old) }
         ensures err { OnErr result (self.new ≡ self.old) }
     {
         let alloc = *self.entries.allocator();
-        let turn = turned(alloc, self.entries.as_slice(), c)?;
-        self.entries = turn.entries;
-        Ok(List::of(turn.changes))
+        let settling = drafted(alloc, self.entries.as_slice(), c, named, others)?;
+        settle(&mut self.entries, settling.drafts);
+        Ok(List::of(settling.changes))
     }
 
     /// Follows a pod that changed, came (without `old`) or went (without `new`), and answers what changed in the groups
-    /// in use.
+    /// in use. It reads members at the addresses of the two alone, and no other pod of the cluster.
     pub fn pod_changed(
         &mut self,
         c: &Cluster,
@@ -129,11 +144,15 @@ impl GroupIndex {
         ensures stands { OnOk result (StandsFor self.new c.now.cluster) }
         ensures err { OnErr result (self.new ≡ self.old) }
     {
-        self.turn_to(c)
+        let alloc = *self.entries.allocator();
+        let addresses = pod_addresses(alloc, c, old, new)?;
+        c.keeps_its_form();
+        self.settle_at(c, addresses.as_slice(), addresses.as_slice())
     }
 
     /// Follows a namespace whose labels changed, that came (without `old`) or that went, and answers what changed in the
-    /// groups in use.
+    /// groups in use. It reads members at the addresses of the namespace's pods alone, and only those of groups whose
+    /// scope is a selector.
     pub fn namespace_changed(
         &mut self,
         c: &Cluster,
@@ -146,7 +165,10 @@ impl GroupIndex {
         ensures stands { OnOk result (StandsFor self.new c.now.cluster) }
         ensures err { OnErr result (self.new ≡ self.old) }
     {
-        self.turn_to(c)
+        let alloc = *self.entries.allocator();
+        let addresses = namespace_addresses(alloc, c, old, name)?;
+        c.keeps_its_form();
+        self.settle_at(c, &[], addresses.as_slice())
     }
 
     /// The groups in use that contain the pod, by their texts.
@@ -198,6 +220,16 @@ impl GroupIndex {
         match self.members(g) {
             Some(members) => push_nodes(nodes, members.as_slice()),
             None => Ok(()),
+        }
+    }
+
+    /// Whether a member of the group is on the node. It is false where the group isn't in use. It does not allocate.
+    pub fn is_on(&self, g: &GroupKey, node: &Text) -> bool
+        ensures { result ≡ has_node self.now g.now node.now }
+    {
+        match self.members(g) {
+            Some(members) => any_on(members.as_slice(), node),
+            None => false,
         }
     }
 

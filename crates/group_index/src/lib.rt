@@ -2,13 +2,17 @@
 #![tactic(auto)]
 
 mod change;
+mod concern;
+mod draft;
 mod entry;
 mod gather;
 mod index;
+mod laws;
 mod member;
+mod settle;
 mod sorted;
-mod turn;
 
 pub use change::GroupChange;
 pub use index::GroupIndex;
+pub use laws::index_stands_before;
 pub use member::Member;

@@ -1,7 +1,7 @@
 ghost use Rattle.std.proofs.Common.{rules};
 ghost use Rattle.std.proofs.lemmas.Grind.{common_steps};
 ghost use Rattle.std.specs.Prelude.{◌≡◌, IfOk, IsTrue, ◌↔◌};
-ghost use Rattle.group_index.specs.Members.{is_of};
+ghost use Rattle.group_index.specs.Members.{is_member_on, is_of};
 
 use cl_types::{Addr, Copies, Keyed, List, NamedPort, NoMemory, PodKey, Same, Text};
 use std::marker::Model;
@@ -44,6 +44,13 @@ impl Member {
         ensures { result ≡ is_of pod.now self.now }
     {
         self.pod == *pod
+    }
+
+    /// Whether it is on the node.
+    pub(crate) fn is_on(&self, node: &Text) -> bool
+        ensures { result ≡ is_member_on node.now self.now }
+    {
+        self.node == *node
     }
 }
 

@@ -6,3 +6,4 @@ pub mod Names
 pub mod Selectors
 pub mod Shapes
 pub mod Unknown
+pub mod ValueLaws

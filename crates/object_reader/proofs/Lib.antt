@@ -1,2 +1,3 @@
 pub mod NodeBlocks
 pub mod ReadTexts
+pub mod WholeObjects

@@ -5,6 +5,7 @@
 mod blocks;
 mod egresses;
 mod groups;
+mod laws;
 mod nodes;
 mod pools;
 mod texts;
@@ -16,6 +17,7 @@ pub use groups::{
     cluster_group, group_fault, group_value, has_namespace_selector, has_selector,
     namespace_selector, pod_selector, selectors_fault,
 };
+pub use laws::{egresses_are_whole, groups_are_whole, nodes_are_whole};
 pub use nodes::{
     metadata_of, name_of, namespace_fault, namespace_name, namespace_value, node_fault, node_value,
     spec_of,

@@ -1,3 +1,4 @@
 pub mod Containers
+pub mod Laws
 pub mod Pods
 pub mod PortOrder

@@ -22,7 +22,7 @@ namespace_has_form o = by_test (is_namespace_name (given_or_default (text_value 
     by_test true is = is
     by_test false is = default_has_form
 
-abbrev ObjectsHaveNoSlash : Type 0
+abbrev pub ObjectsHaveNoSlash : Type 0
 ObjectsHaveNoSlash = (text : List ℕ) → is_object_name text ≡ true → HasNoSlash text
 
 -- what is read as a name has no `/`

@@ -15,6 +15,7 @@ use Rattle.cl_types.specs.PolicyName.{PolicyName}
 use Rattle.cl_types.specs.Text.{text_eq}
 use Rattle.cluster_types.specs.declared.policy.Rule.{Rule}
 use Rattle.cluster_types.specs.Policy.{PolicyData, place_order, isolates, IsBaseline, IsRuleOf, IsKubeRule, IsNativePolicy, IsPolicyOfKind, IsPolicy}
+use Rattle.json_fields.specs.ValueLaws.{all_append}
 use Rattle.policy_objects.specs.declared.rules.Frame.{Frame}
 use Rattle.policy_parts.specs.Actions.{permitted, given_action}
 use Rattle.policy_parts.specs.Places.{is_baseline}
@@ -47,10 +48,6 @@ unfolding rules_from
 before_egress frame i k d [] = tt
 before_egress frame i k d (e ∷ es) = (before_one frame i k d e, before_egress frame i (k + 1) d es)
 
-all_append : (P : Rule → Type 0) (xs ys : List Rule) → AllByRecursion P xs → AllByRecursion P ys → AllByRecursion P (xs ++ ys)
-all_append P [] ys all more = more
-all_append P (x ∷ xs) ys all more = (all.0, all_append P xs ys all.1 more)
-
 both_ascend : (frame : Frame) (i : ℕ) (ds es : List Data) → Ascends (λ (r : Rule). r) place_order (rules_from frame Ingress i ds ++ rules_from frame Egress 0 es)
 unfolding rules_from
 both_ascend frame i [] es = ascend_from frame Egress 0 es
@@ -71,7 +68,7 @@ unfolding rules_from
 all_from P frame dir each i [] = tt
 all_from P frame dir each i (d ∷ ds) = (each i d, all_from P frame dir each (i + 1) ds)
 
-all_of : (P : Rule → Type 0) (frame : Frame) → ((dir : Dir) (i : ℕ) (d : Data) → P (rule_at frame dir i d)) → (ds es : List Data) → AllByRecursion P (rules_value frame ds es)
+pub all_of : (P : Rule → Type 0) (frame : Frame) → ((dir : Dir) (i : ℕ) (d : Data) → P (rule_at frame dir i d)) → (ds es : List Data) → AllByRecursion P (rules_value frame ds es)
 unfolding rules_value
 all_of P frame each ds es =
     all_append P (rules_from frame Ingress 0 ds) (rules_from frame Egress 0 es) (all_from P frame Ingress (each Ingress) 0 ds) (all_from P frame Egress (each Egress) 0 es)

@@ -1,4 +1,5 @@
 pub mod Applied
+pub mod Laws
 pub mod Peers
 pub mod Policies
 pub mod Rules

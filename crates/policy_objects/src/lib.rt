@@ -3,11 +3,13 @@
 
 mod applied;
 mod kube;
+mod laws;
 mod native;
 mod peers;
 mod rules;
 
 pub use kube::{key_in_namespace, kube_policy_fault, kube_policy_value};
+pub use laws::policies_are_whole;
 pub use native::{
     antrea_policy_fault, antrea_policy_value, cluster_key, cluster_policy_fault,
     cluster_policy_value,

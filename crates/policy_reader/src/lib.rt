@@ -3,9 +3,11 @@
 
 mod item;
 mod kinds;
+mod laws;
 mod reader;
 
 pub use control_lines::{Control, NodeOrder};
 pub use item::LineItem;
 pub use json_fields::ReadRefusal;
+pub use laws::what_is_read_is_whole;
 pub use reader::read_line;

@@ -1,5 +1,5 @@
 -- What a change that isn't refused leaves.
-use Rattle.std.proofs.Common.{rules, subst, ◌≡◌, Bool, true, false, not, ◌&&◌, Result, Ok, Err, List, [], ◌∷◌, Option, Some, None, is_some, if◌then◌else◌, refl, sym, ap, ◌∙◌, true≢false}
+use Rattle.std.proofs.Common.{rules, subst, ◌≡◌, Bool, true, false, not, ◌&&◌, Result, Ok, List, [], ◌∷◌, Option, Some, None, is_some, if◌then◌else◌, refl, sym, ap, ◌∙◌, true≢false}
 use base.Stored.{Coded}
 use Rattle.std.specs.declared.cmp.Ordering.{Ordering}
 use Rattle.std.specs.declared.cmp.Ordering.TheVariants.{Less, Equal, Greater}
@@ -23,7 +23,7 @@ use Rattle.cluster_types.specs.declared.node.NodeInfo as node
 use Rattle.cluster_types.specs.declared.pod.Pod as pod
 use Rattle.cluster_types.specs.declared.policy.Policy as policy
 use Rattle.cluster_types.specs.declared.policy.Tier as tier
-use Rattle.cluster_objects.specs.Apply.{Outcome, Placed, makes_difference, difference, is_there, placed, removed, without_tier, made, numbered, numbered_policy}
+use Rattle.cluster_objects.specs.Apply.{Outcome, Placed, makes_difference, difference, is_there, placed, removed, without_tier, made, numbered}
 use Rattle.cluster_objects.specs.Changes.{apply, apply_numbered, is_node, unless}
 use Rattle.cluster_types.specs.Cluster.{ClusterData, no_objects}
 use Rattle.cluster_types.specs.Egress.{EgressData}

@@ -14,9 +14,10 @@ use Rattle.cluster_types.specs.Cluster.{ClusterData, no_objects}
 use Rattle.suite_run.specs.declared.item.Refusal.TheVariants.{NoNode}
 use Rattle.suite_run.specs.declared.item.Item.{Item}
 use Rattle.suite_run.specs.declared.item.Item.TheVariants.{Objects, Ignored, Ask, Blank, Refused}
+use Rattle.run_machine.specs.Machine.{nodes_alone}
 use Rattle.suite_run.specs.Blocks.{world_after}
-use Rattle.suite_run.specs.History.{revised_to, revisions, nodes_alone, last_or, RevisionsAreCounted, TheLastIsTheCluster}
-use Rattle.suite_run.specs.World.{WorldData, OutcomeData, Step, refused, judged, told_refusal, step_of_changes, differs, step, item_of, answer, is_listed, first_world, happens}
+use Rattle.suite_run.specs.History.{revised_to, revisions, last_or, RevisionsAreCounted, TheLastIsTheCluster}
+use Rattle.suite_run.specs.World.{WorldData, Step, refused, judged, told_refusal, step_of_changes, differs, step, item_of, answer, is_listed, first_world, happens}
 use Rattle.suite_run.proofs.ChangeFacts.{ChangeFacts, IsOrdered, change_facts, none_ordered}
 
 ok_is : {A E : Type 0} {x y : A} {r : Result A E} → r ≡ Ok x → r ≡ Ok y → x ≡ y

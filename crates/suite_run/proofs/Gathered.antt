@@ -1,5 +1,5 @@
 -- What changes come to, one after another.
-use Rattle.std.proofs.Common.{rules, ◌≡◌, Bool, true, false, not, ◌&&◌, ◌||◌, Result, Ok, Err, List, [], ◌∷◌, ◌++◌, Option, Some, None, option_to_list, refl, ap, ◌∙◌}
+use Rattle.std.proofs.Common.{rules, ◌≡◌, Bool, true, false, not, ◌&&◌, ◌||◌, Result, Ok, Err, List, ◌∷◌, refl, ap, ◌∙◌}
 use Rattle.cluster_objects.specs.declared.change.Applied.{Applied}
 use Rattle.cluster_types.specs.declared.change.Change.{Change}
 use Rattle.cluster_objects.specs.declared.change.ClusterRefusal.{ClusterRefusal}
@@ -7,7 +7,6 @@ use Rattle.cluster_objects.specs.declared.change.ClusterRefusal.TheVariants as c
 use Rattle.cluster_objects.specs.Apply.{Outcome, outcome, makes_difference}
 use Rattle.cluster_objects.specs.Changes.{after, and_then, apply, is_node, joined, Follows, Outcomes}
 use Rattle.cluster_types.specs.Cluster.{ClusterData}
-use Rattle.suite_run.specs.declared.world.Differences.{Differences}
 use Rattle.suite_run.specs.Shown.{ComesTo}
 
 -- what later changes come to, and whether these or the earlier ones changed something

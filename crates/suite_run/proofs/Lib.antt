@@ -8,3 +8,4 @@ pub mod Running
 pub mod Saying
 pub mod Told
 pub mod Wholes
+mod WholeWorlds

@@ -1,5 +1,5 @@
 -- A run over lines, between two of them.
-use Rattle.std.proofs.Common.{◌≡◌, ℕ, ◌+◌, ◌<◌, ◌≤◌, Bool, true, false, ◌||◌, IsTrue, Option, Some, None, IsSome, IfSome, Result, Ok, Err, IsOk, IsErr, OnOk, OnErr, List, [], ◌∷◌, ◌++◌, length, take, All, refl, sym, ap, ◌∙◌, append_assoc, append-nil, subst, arith, length-append}
+use Rattle.std.proofs.Common.{◌≡◌, ℕ, ◌+◌, ◌<◌, ◌≤◌, if◌then◌else◌, IsTrue, Option, Some, None, IsSome, IfSome, Result, Ok, Err, IsOk, IsErr, OnOk, OnErr, List, [], ◌∷◌, ◌++◌, length, take, All, refl, sym, ap, ◌∙◌, append_assoc, append-nil, subst, arith, length-append}
 use Rattle.std.proofs.lemmas.List.{take_all, get_or-append-add}
 use Rattle.cl_io.specs.declared.lines.Line.{Line}
 use Rattle.cl_io.specs.declared.lines.Line.TheVariants.{Whole, TooLong, End}
@@ -11,44 +11,45 @@ use Rattle.cl_io.specs.ReaderLaws.{Kept-none}
 use Rattle.cl_io.specs.Sink.{SinkState, Endures, Lowers, Takes}
 use Rattle.cl_io.specs.SinkLaws.{Lowers-none, Lowers-more}
 use Rattle.suite_run.specs.declared.blocks.LineBlock.{LineBlock}
-use Rattle.suite_run.specs.Blocks.{block_text, world_after, blocks, has_refusal, out_of}
+use Rattle.command_words.specs.declared.command.Command.{Command}
+use Rattle.suite_run.specs.Blocks.{world_after, shows, shown, blocks, count_if, refused_count, ending, due_in_all}
 use Rattle.suite_run.specs.Run.{IsTelling, text_due, whole_files}
-use Rattle.suite_run.specs.Shown.{Shows}
+use Rattle.suite_run.specs.Shown.{Shows, part_of}
 use Rattle.suite_run.specs.World.{WorldData, line_limit, input_limit, first_world, item_of, step, is_refusal, outcome, happens}
 use Rattle.suite_run.proofs.Revisions.{revision-step}
-use Rattle.suite_run.proofs.Wholes.{Begins-all, world_after-append, blocks-append, has_refusal-append}
+use Rattle.suite_run.proofs.Wholes.{told_at, Begins-all, world_after-append, blocks-append, refused_count-append, refused_count-le}
 
 -- a reader of files of these names before its first line
 abbrev pub start : List (List ℕ) → Reading
 start names = reading_of names line_limit input_limit
 
 -- with room for the whole text no write fails
-abbrev pub Faultless : List (List ℕ) → FilesState → SinkState → ℕ → Type 0
-Faultless names f0 o0 faults = IsTrue o0.steady → IsTelling names f0 → IfSome o0.free (λ room. length (text_due names f0) ≤ room → faults ≡ o0.faults)
+abbrev pub Faultless : Command → List (List ℕ) → FilesState → SinkState → ℕ → Type 0
+Faultless command names f0 o0 faults = IsTrue o0.steady → IsTelling names f0 → IfSome o0.free (λ room. length (text_due command names f0) ≤ room → faults ≡ o0.faults)
 
 abbrev pub IsTruthful : FilesState → Type 0
 IsTruthful f = IfSome f.taken (All (IsOfContent f.content))
 
 -- the blocks of some lines were written, and the reader handed out no others
-pub record Running (names : List (List ℕ)) (f0 : FilesState) (o0 : SinkState) (r : Reading) (f : FilesState) (o : SinkState) (w : WorldData) (refused : Bool) (number : ℕ) : Type 0 where
+pub record Running (command : Command) (names : List (List ℕ)) (f0 : FilesState) (o0 : SinkState) (r : Reading) (f : FilesState) (o : SinkState) (w : WorldData) (refused : ℕ) (number : ℕ) : Type 0 where
   pub done : List (List ℕ)
   pub count : length done + 1 ≡ number
   pub kept : Kept (start names) f0 r f
   pub stands : Stands f0 done r f
   pub world_is : w ≡ world_after first_world done
-  pub refused_is : refused ≡ has_refusal first_world done
+  pub refused_is : refused ≡ refused_count first_world done
   pub revisions : w.revision + 1 ≤ number
   pub used_up : number ≤ used r + 1
-  pub written : Adds o0.written (blocks 1 first_world done) o.written
-  pub free : Lowers o0.free (length (blocks 1 first_world done)) o.free
+  pub written : Adds o0.written (blocks command 1 first_world done) o.written
+  pub free : Lowers o0.free (length (blocks command 1 first_world done)) o.free
   pub endures : Endures o0 o
-  pub faultless : Faultless names f0 o0 o.faults
+  pub faultless : Faultless command names f0 o0 o.faults
 
 -- ---- before the first line
 
-pub Running-none : (names : List (List ℕ)) (f0 : FilesState) (o0 : SinkState) (r : Reading) (w : WorldData) → r ≡ start names → ((base : FilesState) → Stands base [] r base) → w ≡ first_world →
-    Running names f0 o0 r f0 o0 w false 1
-Running-none names f0 o0 r w fresh stands e =
+pub Running-none : (command : Command) (names : List (List ℕ)) (f0 : FilesState) (o0 : SinkState) (r : Reading) (w : WorldData) → r ≡ start names → ((base : FilesState) → Stands base [] r base) → w ≡ first_world →
+    Running command names f0 o0 r f0 o0 w 0 1
+Running-none command names f0 o0 r w fresh stands e =
     record {
       done = [];
       count = refl;
@@ -64,7 +65,7 @@ Running-none names f0 o0 r w fresh stands e =
       faultless = λ _ _. same o0.free;
     }
   where
-    same : (o : Option ℕ) → IfSome o (λ room. length (text_due names f0) ≤ room → o0.faults ≡ o0.faults)
+    same : (o : Option ℕ) → IfSome o (λ room. length (text_due command names f0) ≤ room → o0.faults ≡ o0.faults)
     same None = tt
     same (Some room) = λ _. refl
 
@@ -98,21 +99,25 @@ telling names f0 r f kept tells =
 
 -- ---- the blocks written begin the text that is due
 
-pub record Fronts (names : List (List ℕ)) (f0 : FilesState) (done : List (List ℕ)) : Type 0 where
+pub record Fronts (command : Command) (names : List (List ℕ)) (f0 : FilesState) (done : List (List ℕ)) : Type 0 where
   pub rest : List ℕ
-  pub split : text_due names f0 ≡ blocks 1 first_world done ++ rest
+  pub split : text_due command names f0 ≡ blocks command 1 first_world done ++ rest
 
-pub due_front : (names : List (List ℕ)) (f0 : FilesState) (r : Reading) (f : FilesState) (done : List (List ℕ)) → Kept (start names) f0 r f → Stands f0 done r f → IsTruthful f →
-    IsSome f.taken → Fronts names f0 done
-unfolding out_of
-due_front names f0 r f done kept stands truthful taken =
+pub due_front : (command : Command) (names : List (List ℕ)) (f0 : FilesState) (r : Reading) (f : FilesState) (done : List (List ℕ)) → Kept (start names) f0 r f → Stands f0 done r f → IsTruthful f →
+    IsSome f.taken → Fronts command names f0 done
+unfolding due_in_all
+due_front command names f0 r f done kept stands truthful taken =
     let a = added f0.taken (Took done r) (IsOfContent f.content) f.taken stands.taken truthful taken in
     let b = Begins-all f.content done r a.more a.has a.all in
     let lines : whole_lines (whole_files f0.content names) ≡ done ++ b.rest =
     ap (λ z. whole_lines (whole_files z names)) (sym kept.lasts.content) ∙ (ap (λ z. whole_lines (whole_files f.content z)) (sym kept.task.names) ∙ b.split) in
+    let all = whole_lines (whole_files f0.content names) in
+    let end = ending command (length all) (refused_count first_world all) in
+    let more = blocks command (1 + length done) (world_after first_world done) b.rest in
     record {
-      rest = blocks (1 + length done) (world_after first_world done) b.rest;
-      split = ap (blocks 1 first_world) lines ∙ blocks-append 1 first_world done b.rest;
+      rest = more ++ end;
+      split = ap (λ z. blocks command 1 first_world z ++ end) lines
+          ∙ (ap (λ z. z ++ end) (blocks-append command 1 first_world done b.rest) ∙ append_assoc (blocks command 1 first_world done) more end);
     }
 
 -- ---- one line more
@@ -134,52 +139,63 @@ handed f0 done (TooLong count) r f some more hands stands =
 handed f0 done End r f some more hands stands = absurd (some refl)
 
 -- the block of the line is the next one
-next_blocks : (done : List (List ℕ)) (bytes : List ℕ) (number : ℕ) (w : WorldData) (text : List ℕ) → length done + 1 ≡ number → w ≡ world_after first_world done → text ≡ block_text number (outcome w bytes) →
-    blocks 1 first_world (done ++ bytes ∷ []) ≡ blocks 1 first_world done ++ text
-next_blocks done bytes number w text count world_is e =
+next_blocks : (command : Command) (done : List (List ℕ)) (bytes : List ℕ) (number : ℕ) (w : WorldData) (text : List ℕ) → length done + 1 ≡ number → w ≡ world_after first_world done → text ≡ shown command (told_at number (outcome w bytes)) →
+    blocks command 1 first_world (done ++ bytes ∷ []) ≡ blocks command 1 first_world done ++ text
+next_blocks command done bytes number w text count world_is e =
     let n : 1 + length done ≡ number = omega (arith, count) in
-    let here : block_text (1 + length done) (outcome (world_after first_world done) bytes) ++ [] ≡ text =
-    append-nil (block_text (1 + length done) (outcome (world_after first_world done) bytes)) ∙ (ap (λ z. block_text z (outcome (world_after first_world done) bytes)) n ∙ (ap (λ z. block_text number (outcome z bytes)) (sym world_is) ∙ sym e)) in
-    blocks-append 1 first_world done (bytes ∷ []) ∙ ap (λ z. blocks 1 first_world done ++ z) here
+    let own : ℕ → WorldData → List ℕ = λ k z. shown command (told_at k (outcome z bytes)) in
+    let here : own (1 + length done) (world_after first_world done) ++ [] ≡ text =
+    append-nil (own (1 + length done) (world_after first_world done)) ∙ (ap (λ k. own k (world_after first_world done)) n ∙ (ap (own number) (sym world_is) ∙ sym e)) in
+    blocks-append command 1 first_world done (bytes ∷ []) ∙ ap (λ z. blocks command 1 first_world done ++ z) here
+
+-- what is written of the block is what the command shows of the line
+part_is : (command : Command) (number : ℕ) (w : WorldData) (bytes : List ℕ) (w' : WorldData) (block : LineBlock) → Shows number (step w (item_of bytes)) w' block →
+    part_of command block ≡ shown command (told_at number (outcome w bytes))
+part_is command number w bytes w' block follows =
+    ap (λ b. if shows command b then block.text else []) follows.refusal ∙ ap (λ z. if shows command (is_refusal (outcome w bytes)) then z else []) follows.text
 
 -- with room for all, there was room for the text
-pub room_left : {T E : Type 0} (result : Result T E) (o0 o : Option ℕ) (was text all : ℕ) (faults0 faults faults' : ℕ) → was + text ≤ all → Lowers o0 was o →
-    IfSome o0 (λ room. all ≤ room → faults ≡ faults0) → IfSome o (λ room. text ≤ room → Succeeds result faults faults') → IfSome o0 (λ room. all ≤ room → faults' ≡ faults0)
-room_left result None o was text all faults0 faults faults' fits l a b = tt
-room_left result (Some room) None was text all faults0 faults faults' fits l a b = absurd l
-room_left result (Some room) (Some left) was text all faults0 faults faults' fits l a b = λ h. (b (omega (arith, l, h, fits))).faultless ∙ a h
+pub room_left : (o0 o : Option ℕ) (was text all : ℕ) (faults0 faults faults' : ℕ) → was + text ≤ all → Lowers o0 was o →
+    IfSome o0 (λ room. all ≤ room → faults ≡ faults0) → IfSome o (λ room. text ≤ room → faults' ≡ faults) → IfSome o0 (λ room. all ≤ room → faults' ≡ faults0)
+room_left None o was text all faults0 faults faults' fits l a b = tt
+room_left (Some room) None was text all faults0 faults faults' fits l a b = absurd l
+room_left (Some room) (Some left) was text all faults0 faults faults' fits l a b = λ h. b (omega (arith, l, h, fits)) ∙ a h
+
+pub faultless_of : {T E : Type 0} (result : Result T E) (free : Option ℕ) (size faults faults' : ℕ) → IfSome free (λ room. size ≤ room → Succeeds result faults faults') → IfSome free (λ room. size ≤ room → faults' ≡ faults)
+faultless_of result None size faults faults' h = tt
+faultless_of result (Some room) size faults faults' h = λ fits. (h fits).faultless
 
 -- the text that is due goes on with the block
-pub record NextFront (names : List (List ℕ)) (f0 : FilesState) (done : List (List ℕ)) (text : List ℕ) : Type 0 where
+pub record NextFront (command : Command) (names : List (List ℕ)) (f0 : FilesState) (done : List (List ℕ)) (text : List ℕ) : Type 0 where
   pub rest : List ℕ
-  pub split : text_due names f0 ≡ blocks 1 first_world done ++ (text ++ rest)
+  pub split : text_due command names f0 ≡ blocks command 1 first_world done ++ (text ++ rest)
 
-pub next_front : (names : List (List ℕ)) (f0 : FilesState) (o0 : SinkState) (r : Reading) (f : FilesState) (o : SinkState) (w : WorldData) (refused : Bool) (number : ℕ) (run : Running names f0 o0 r f o w refused number)
+pub next_front : (command : Command) (names : List (List ℕ)) (f0 : FilesState) (o0 : SinkState) (r : Reading) (f : FilesState) (o : SinkState) (w : WorldData) (refused : ℕ) (number : ℕ) (run : Running command names f0 o0 r f o w refused number)
     (r' : Reading) (f' : FilesState) (line : Line) (h : Handed f0 run.done line r' f') (w' : WorldData) (block : LineBlock) → Shows number (step w (item_of h.bytes)) w' block →
-    Kept (start names) f0 r' f' → IsTruthful f' → IsSome f'.taken → NextFront names f0 run.done block.text
-next_front names f0 o0 r f o w refused number run r' f' line h w' block follows kept truthful taken =
-    let d = due_front names f0 r' f' (run.done ++ h.bytes ∷ []) kept h.stands truthful taken in
-    let e = next_blocks run.done h.bytes number w block.text run.count run.world_is follows.text in
-    record { rest = d.rest; split = d.split ∙ (ap (λ z. z ++ d.rest) e ∙ append_assoc (blocks 1 first_world run.done) block.text d.rest) }
+    Kept (start names) f0 r' f' → IsTruthful f' → IsSome f'.taken → NextFront command names f0 run.done (part_of command block)
+next_front command names f0 o0 r f o w refused number run r' f' line h w' block follows kept truthful taken =
+    let d = due_front command names f0 r' f' (run.done ++ h.bytes ∷ []) kept h.stands truthful taken in
+    let e = next_blocks command run.done h.bytes number w (part_of command block) run.count run.world_is (part_is command number w h.bytes w' block follows) in
+    record { rest = d.rest; split = d.split ∙ (ap (λ z. z ++ d.rest) e ∙ append_assoc (blocks command 1 first_world run.done) (part_of command block) d.rest) }
 
-pub next_faultless : {T E : Type 0} (names : List (List ℕ)) (f0 : FilesState) (o0 : SinkState) (r : Reading) (f : FilesState) (o : SinkState) (w : WorldData) (refused : Bool) (number : ℕ) (run : Running names f0 o0 r f o w refused number)
-    (text : List ℕ) (result : Result T E) (o' : SinkState) → (IsTelling names f0 → NextFront names f0 run.done text) →
-    (IsTrue o.steady → IfSome o.free (λ room. length text ≤ room → Succeeds result o.faults o'.faults)) → Faultless names f0 o0 o'.faults
-next_faultless names f0 o0 r f o w refused number run text result o' front put = λ s t.
+pub next_faultless : (command : Command) (names : List (List ℕ)) (f0 : FilesState) (o0 : SinkState) (r : Reading) (f : FilesState) (o : SinkState) (w : WorldData) (refused : ℕ) (number : ℕ) (run : Running command names f0 o0 r f o w refused number)
+    (text : List ℕ) (o' : SinkState) → (IsTelling names f0 → NextFront command names f0 run.done text) →
+    (IsTrue o.steady → IfSome o.free (λ room. length text ≤ room → o'.faults ≡ o.faults)) → Faultless command names f0 o0 o'.faults
+next_faultless command names f0 o0 r f o w refused number run text o' front put = λ s t.
     let d = front t in
-    let fits : length (blocks 1 first_world run.done) + length text ≤ length (text_due names f0) =
-    omega (arith, ap length d.split, length-append (blocks 1 first_world run.done) (text ++ d.rest), length-append text d.rest) in
-    room_left result o0.free o.free _ _ _ _ _ _ fits run.free (run.faultless s t) (put (run.endures.steady s))
+    let fits : length (blocks command 1 first_world run.done) + length text ≤ length (text_due command names f0) =
+    omega (arith, ap length d.split, length-append (blocks command 1 first_world run.done) (text ++ d.rest), length-append text d.rest) in
+    room_left o0.free o.free _ _ _ _ _ _ fits run.free (run.faultless s t) (put (run.endures.steady s))
 
-pub Running-more : {T E : Type 0} (names : List (List ℕ)) (f0 : FilesState) (o0 : SinkState) (r : Reading) (f : FilesState) (o : SinkState) (w : WorldData) (refused : Bool) (number : ℕ) (run : Running names f0 o0 r f o w refused number)
+pub Running-more : (command : Command) (names : List (List ℕ)) (f0 : FilesState) (o0 : SinkState) (r : Reading) (f : FilesState) (o : SinkState) (w : WorldData) (refused : ℕ) (number : ℕ) (run : Running command names f0 o0 r f o w refused number)
     (r' : Reading) (f' : FilesState) (line : Line) (h : Handed f0 run.done line r' f') (w' : WorldData) (block : LineBlock) → Shows number (step w (item_of h.bytes)) w' block →
     Kept (start names) f0 r' f' → IsTruthful f' →
-    (result : Result T E) (o' : SinkState) (refused' : Bool) → used r < used r' → Adds o.written block.text o'.written → Lowers o.free (length block.text) o'.free → Endures o o' →
-    (IsTrue o.steady → IfSome o.free (λ room. length block.text ≤ room → Succeeds result o.faults o'.faults)) →
-    refused' ≡ (refused || block.refusal) →
-    Running names f0 o0 r' f' o' w' refused' (number + 1)
-Running-more names f0 o0 r f o w refused number run r' f' line h w' block follows kept truthful result o' refused' uses written free endures succeeds refuses =
-    let e = next_blocks run.done h.bytes number w block.text run.count run.world_is follows.text in
+    (o' : SinkState) (refused' : ℕ) → used r < used r' → Adds o.written (part_of command block) o'.written → Lowers o.free (length (part_of command block)) o'.free → Endures o o' →
+    (IsTrue o.steady → IfSome o.free (λ room. length (part_of command block) ≤ room → o'.faults ≡ o.faults)) →
+    refused' ≡ refused + count_if block.refusal →
+    Running command names f0 o0 r' f' o' w' refused' (number + 1)
+Running-more command names f0 o0 r f o w refused number run r' f' line h w' block follows kept truthful o' refused' uses written free endures succeeds refuses =
+    let e = next_blocks command run.done h.bytes number w (part_of command block) run.count run.world_is (part_is command number w h.bytes w' block follows) in
     let W : List ℕ → Type 0 = λ z. Adds o0.written z o'.written in
     let L : ℕ → Type 0 = λ z. Lowers o0.free z o'.free in
     record {
@@ -188,13 +204,13 @@ Running-more names f0 o0 r f o w refused number run r' f' line h w' block follow
       kept = kept;
       stands = h.stands;
       world_is = follows.world_is ∙ (ap (λ z. happens z h.bytes) run.world_is ∙ sym (world_after-append first_world run.done (h.bytes ∷ [])));
-      refused_is = refuses ∙ (ap (λ z. z || block.refusal) run.refused_is ∙ (ap (λ z. has_refusal first_world run.done || z) (follows.refusal ∙ ap (λ z. is_refusal (outcome z h.bytes)) run.world_is) ∙ sym (has_refusal-append first_world run.done h.bytes)));
+      refused_is = refuses ∙ (ap (λ z. z + count_if block.refusal) run.refused_is ∙ (ap (λ z. refused_count first_world run.done + count_if z) (follows.refusal ∙ ap (λ z. is_refusal (outcome z h.bytes)) run.world_is) ∙ sym (refused_count-append first_world run.done h.bytes)));
       revisions = omega (arith, run.revisions, ap (λ (z : WorldData). z.revision) follows.world_is, revision-step w (item_of h.bytes));
-      written = subst W (sym e) (Adds-more o0.written _ o.written block.text o'.written run.written written);
-      free = subst L (sym (ap length e ∙ length-append (blocks 1 first_world run.done) block.text)) (Lowers-more o0.free _ o.free _ o'.free run.free free);
+      written = subst W (sym e) (Adds-more o0.written _ o.written (part_of command block) o'.written run.written written);
+      free = subst L (sym (ap length e ∙ length-append (blocks command 1 first_world run.done) (part_of command block))) (Lowers-more o0.free _ o.free _ o'.free run.free free);
       used_up = omega (arith, run.used_up, uses);
       endures = record { later = omega (arith, run.endures.later, endures.later); steady = λ s. endures.steady (run.endures.steady s) };
-      faultless = next_faultless names f0 o0 r f o w refused number run block.text result o' (λ t. next_front names f0 o0 r f o w refused number run r' f' line h w' block follows kept truthful (telling names f0 r' f' kept t).1) succeeds;
+      faultless = next_faultless command names f0 o0 r f o w refused number run (part_of command block) o' (λ t. next_front command names f0 o0 r f o w refused number run r' f' line h w' block follows kept truthful (telling names f0 r' f' kept t).1) succeeds;
     }
 
 of_ok : {A E : Type 0} {P : Type 0} (r : Result A E) → IsOk r → OnOk r P → P
@@ -214,10 +230,6 @@ pub of_err : {A E : Type 0} {P : Type 0} (r : Result A E) → IsErr r → OnErr 
 of_err (Ok x) err p = cc
 of_err (Err e) err p = p
 
-pub or_then : (a b c : Bool) → a ≡ true → c ≡ a → c ≡ (a || b)
-or_then true b c t e = e
-or_then false b c t e = cc
-
-pub or_else : (a b c : Bool) → a ≡ false → c ≡ b → c ≡ (a || b)
-or_else true b c t e = cc
-or_else false b c t e = e
+-- fewer lines are refused than the number of the next one
+pub refused_few : (command : Command) (names : List (List ℕ)) (f0 : FilesState) (o0 : SinkState) (r : Reading) (f : FilesState) (o : SinkState) (w : WorldData) (refused : ℕ) (number : ℕ) → Running command names f0 o0 r f o w refused number → refused < number
+refused_few command names f0 o0 r f o w refused number run = omega (arith, run.refused_is, run.count, refused_count-le first_world run.done)

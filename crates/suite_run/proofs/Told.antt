@@ -1,5 +1,5 @@
 -- What is told of a refused change.
-use Rattle.std.proofs.Common.{rules, ◌≡◌, Result, Ok, Err, refl, sym, ap, ◌∙◌}
+use Rattle.std.proofs.Common.{◌≡◌, Result, Err, sym, ap, ◌∙◌}
 use Rattle.cluster_objects.specs.declared.change.ClusterRefusal.{ClusterRefusal}
 use Rattle.cluster_objects.specs.declared.change.ClusterRefusal.TheVariants as cluster
 use Rattle.cluster_objects.specs.Apply.{Outcome}
@@ -7,7 +7,7 @@ use Rattle.cluster_objects.specs.Changes.{Follows, Outcomes}
 use Rattle.cluster_types.specs.Cluster.{ClusterData}
 use Rattle.suite_run.specs.declared.world.LineOutcome.{LineOutcome}
 use Rattle.suite_run.specs.Shown.{outcome_of, ComesTo, IsTold}
-use Rattle.suite_run.specs.World.{Step, WorldData, step_of_changes, tells}
+use Rattle.suite_run.specs.World.{WorldData, step_of_changes, tells}
 
 -- the step of changes that are refused tells the refusal
 pub told_step : (w : WorldData) (all : Result Outcomes ClusterRefusal) (new : ClusterData) (refusal : ClusterRefusal) (told : LineOutcome)

@@ -1,5 +1,5 @@
 -- Lines that were handed out, among all lines of files, and their blocks.
-use Rattle.std.proofs.Common.{◌≡◌, ℕ, ◌+◌, Bool, true, false, ◌||◌, MatchBool, List, [], ◌∷◌, ◌++◌, length, take, drop, All, refl, sym, ap, ◌∙◌, append_assoc, append-nil, subst, arith, length-append}
+use Rattle.std.proofs.Common.{◌≡◌, ℕ, ◌+◌, ◌≤◌, Bool, true, false, MatchBool, List, [], ◌∷◌, ◌++◌, length, take, drop, All, refl, sym, ap, ◌∙◌, append_assoc, append-nil, subst, arith, length-append}
 use Rattle.std.proofs.Math.ListN.{get_or-append}
 use Rattle.std.proofs.Math.Seq.{get_or-append_seam}
 use Rattle.std.proofs.lemmas.List.{take-append-drop}
@@ -8,9 +8,10 @@ use Rattle.cl_io.specs.Files.{Entry, IsOfContent, IsEnded, names_of}
 use Rattle.cl_io.specs.Lines.{lines_of, whole_lines}
 use Rattle.cl_io.specs.Reader.{Reading, IsBetween, IsAmid, Took}
 use Rattle.cl_io.specs.LinesLaws.{whole_lines-append, names_of-append}
-use Rattle.suite_run.specs.Blocks.{block_text, world_after, blocks, has_refusal}
+use Rattle.command_words.specs.declared.command.Command.{Command}
+use Rattle.suite_run.specs.Blocks.{Told, world_after, shown, blocks, count_if, refused_count}
 use Rattle.suite_run.specs.Run.{whole_files}
-use Rattle.suite_run.specs.World.{WorldData, is_refusal, outcome, happens}
+use Rattle.suite_run.specs.World.{WorldData, OutcomeData, is_refusal, outcome, happens}
 
 -- ---- files
 
@@ -83,22 +84,27 @@ pub world_after-append : (w : WorldData) (xs ys : List (List ℕ)) → world_aft
 world_after-append w [] ys = refl
 world_after-append w (x ∷ xs) ys = world_after-append (happens w x) xs ys
 
-pub blocks-append : (n : ℕ) (w : WorldData) (xs ys : List (List ℕ)) → blocks n w (xs ++ ys) ≡ blocks n w xs ++ blocks (n + length xs) (world_after w xs) ys
-blocks-append n w [] ys = ap (λ k. blocks k w ys) (omega arith)
-blocks-append n w (x ∷ xs) ys =
+-- what is told of a line
+abbrev pub told_at : ℕ → OutcomeData → Told
+told_at n o = record { number = n; outcome = o }
+
+pub blocks-append : (command : Command) (n : ℕ) (w : WorldData) (xs ys : List (List ℕ)) → blocks command n w (xs ++ ys) ≡ blocks command n w xs ++ blocks command (n + length xs) (world_after w xs) ys
+blocks-append command n w [] ys = ap (λ k. blocks command k w ys) (omega arith)
+blocks-append command n w (x ∷ xs) ys =
     let e : n + 1 + length xs ≡ n + length (x ∷ xs) = omega arith in
-    ap (λ z. block_text n (outcome w x) ++ z) (blocks-append (n + 1) (happens w x) xs ys ∙ ap (λ k. blocks (n + 1) (happens w x) xs ++ blocks k (world_after (happens w x) xs) ys) e)
-    ∙ sym (append_assoc (block_text n (outcome w x)) (blocks (n + 1) (happens w x) xs) (blocks (n + length (x ∷ xs)) (world_after (happens w x) xs) ys))
+    let first = shown command (told_at n (outcome w x)) in
+    ap (λ z. first ++ z) (blocks-append command (n + 1) (happens w x) xs ys ∙ ap (λ k. blocks command (n + 1) (happens w x) xs ++ blocks command k (world_after (happens w x) xs) ys) e)
+    ∙ sym (append_assoc first (blocks command (n + 1) (happens w x) xs) (blocks command (n + length (x ∷ xs)) (world_after (happens w x) xs) ys))
 
-or_false : (b : Bool) → (b || false) ≡ b
-or_false true = refl
-or_false false = refl
+pub refused_count-append : (w : WorldData) (xs : List (List ℕ)) (y : List ℕ) → refused_count w (xs ++ y ∷ []) ≡ refused_count w xs + count_if (is_refusal (outcome (world_after w xs) y))
+refused_count-append w [] y = omega arith
+refused_count-append w (x ∷ xs) y = omega (arith, refused_count-append (happens w x) xs y)
 
-or_assoc : (a b c : Bool) → (a || (b || c)) ≡ ((a || b) || c)
-or_assoc true b c = refl
-or_assoc false b c = refl
+pub count_if-le : (b : Bool) → count_if b ≤ 1
+count_if-le true = omega arith
+count_if-le false = omega arith
 
-pub has_refusal-append : (w : WorldData) (xs : List (List ℕ)) (y : List ℕ) → has_refusal w (xs ++ y ∷ []) ≡ (has_refusal w xs || is_refusal (outcome (world_after w xs) y))
-has_refusal-append w [] y = or_false (is_refusal (outcome w y))
-has_refusal-append w (x ∷ xs) y =
-    ap (λ z. is_refusal (outcome w x) || z) (has_refusal-append (happens w x) xs y) ∙ or_assoc (is_refusal (outcome w x)) (has_refusal (happens w x) xs) (is_refusal (outcome (world_after (happens w x) xs) y))
+-- no more lines are refused than there are
+pub refused_count-le : (w : WorldData) (xs : List (List ℕ)) → refused_count w xs ≤ length xs
+refused_count-le w [] = omega arith
+refused_count-le w (x ∷ xs) = omega (arith, count_if-le (is_refusal (outcome w x)), refused_count-le (happens w x) xs)

@@ -1,9 +1,12 @@
 -- The text that is printed of each line (this project's own).
-use Rattle.std.specs.Prelude.{ℕ, ◌+◌, List, [], ◌∷◌, ◌++◌, Bool, true, false, ◌||◌, codes, if◌then◌else◌}
+use Rattle.std.specs.Prelude.{ℕ, ◌+◌, List, [], ◌∷◌, ◌++◌, length, Bool, true, false, nat_lt, codes, if◌then◌else◌}
+use Rattle.std.specs.List.{flat_map}
 use Rattle.std.specs.Fmt.{decimal}
 use Rattle.cl_io.specs.Files.{Entry}
 use Rattle.cl_io.specs.Lines.{line_feed, whole_lines}
 use Rattle.cl_types.specs.Written.{pod_text, policy_text, judged_text}
+use Rattle.command_words.specs.declared.command.Command.{Command}
+use Rattle.command_words.specs.declared.command.Command.TheVariants.{Check, Replay}
 use Rattle.cluster_objects.specs.declared.change.ClusterRefusal.{ClusterRefusal}
 use Rattle.cluster_objects.specs.declared.change.ClusterRefusal.TheVariants as cluster
 use Rattle.json_fields.specs.declared.refusal.ReadRefusal.{ReadRefusal}
@@ -69,19 +72,58 @@ abbrev pub world_after : WorldData → List (List ℕ) → WorldData
 world_after w [] = w
 world_after w (line ∷ lines) = world_after (happens w line) lines
 
--- the blocks of lines that are numbered from n on
-abbrev pub blocks : ℕ → WorldData → List (List ℕ) → List ℕ
-blocks n w [] = []
-blocks n w (line ∷ lines) = block_text n (outcome w line) ++ blocks (n + 1) (happens w line) lines
+-- what is told of a line, with its number
+pub record Told : Type 0 where
+  pub number : ℕ
+  pub outcome : OutcomeData
 
--- whether some of the lines is refused
-abbrev pub has_refusal : WorldData → List (List ℕ) → Bool
-has_refusal w [] = false
-has_refusal w (line ∷ lines) = is_refusal (outcome w line) || has_refusal (happens w line) lines
+-- what is told of lines that are numbered from n on
+abbrev pub told : ℕ → WorldData → List (List ℕ) → List Told
+told n w [] = []
+told n w (line ∷ lines) = record { number = n; outcome = outcome w line } ∷ told (n + 1) (happens w line) lines
 
--- the text of a run over files: the blocks of all their whole lines
-unfoldable pub out_of : List Entry → List ℕ
-out_of files = blocks 1 first_world (whole_lines files)
+-- ---- what a command writes of it
+
+-- `check` shows refusals alone
+abbrev pub shows : Command → Bool → Bool
+shows (Check files) is_refused = is_refused
+shows (Replay ring files) is_refused = true
+
+-- the block of a line, where the command shows it
+abbrev pub shown : Command → Told → List ℕ
+shown command t = if shows command (is_refusal t.outcome) then block_text t.number t.outcome else []
+
+-- the shown blocks of lines that are numbered from n on
+abbrev pub blocks : Command → ℕ → WorldData → List (List ℕ) → List ℕ
+blocks command n w lines = flat_map (shown command) (told n w lines)
+
+abbrev pub count_if : Bool → ℕ
+count_if true = 1
+count_if false = 0
+
+-- how many of some lines are refused
+abbrev pub refused_count : WorldData → List (List ℕ) → ℕ
+refused_count w [] = 0
+refused_count w (line ∷ lines) = count_if (is_refusal (outcome w line)) + refused_count (happens w line) lines
+
+-- 8 lines 1 refused
+unfoldable pub counts_text : ℕ → ℕ → List ℕ
+counts_text lines refusals = decimal lines ++ (codes " lines " ++ (decimal refusals ++ (codes " refused" ++ (line_feed ∷ []))))
+
+-- after the last line `check` counts the lines, and those that are refused
+abbrev pub ending : Command → ℕ → ℕ → List ℕ
+ending (Check files) lines refusals = counts_text lines refusals
+ending (Replay ring files) lines refusals = []
+
+-- the text that is due when the run can't go on after these files: the shown blocks of all their whole lines
+unfoldable pub due_so_far : Command → List Entry → List ℕ
+due_so_far command files = blocks command 1 first_world (whole_lines files)
+
+-- the text that is due when these are all files
+unfoldable pub due_in_all : Command → List Entry → List ℕ
+due_in_all command files =
+    blocks command 1 first_world (whole_lines files)
+    ++ ending command (length (whole_lines files)) (refused_count first_world (whole_lines files))
 
 unfoldable pub any_refused : List Entry → Bool
-any_refused files = has_refusal first_world (whole_lines files)
+any_refused files = nat_lt 0 (refused_count first_world (whole_lines files))

@@ -1,6 +1,8 @@
 -- The clusters that the revisions of a run name (this project's own).
 use Rattle.std.specs.Prelude.{◌≡◌, ℕ, List, [], ◌∷◌, length, true, IsTrue}
-use Rattle.cluster_types.specs.Cluster.{ClusterData, no_objects}
+use Rattle.std.specs.List.{AllByRecursion}
+use Rattle.cluster_types.specs.Cluster.{ClusterData, IsCluster, no_objects}
+use Rattle.run_machine.specs.Machine.{nodes_alone}
 use Rattle.suite_run.specs.Blocks.{world_after}
 use Rattle.suite_run.specs.World.{WorldData, OutcomeData, revision, first_world, outcome, happens}
 
@@ -13,10 +15,6 @@ revised_to _ c later = later
 abbrev pub revisions : WorldData → List (List ℕ) → List ClusterData
 revisions w [] = []
 revisions w (line ∷ lines) = revised_to (outcome w line) (happens w line).cluster (revisions (happens w line) lines)
-
--- the nodes and the static tiers
-abbrev pub nodes_alone : ClusterData → ClusterData
-nodes_alone c = record no_objects { nodes = c.nodes; fixed = true }
 
 -- The cluster of revision 0, in which the nodes alone stand, and those of the revisions from 1 on. (Once the
 -- nodes are fixed none of them changes.)
@@ -36,3 +34,8 @@ abbrev pub TheLastIsTheCluster : Type 0
 TheLastIsTheCluster =
     (lines : List (List ℕ)) → IsTrue (world_after first_world lines).cluster.fixed
     → last_or no_objects (history lines) ≡ (world_after first_world lines).cluster
+
+-- after any lines the world has a cluster, with all that every cluster keeps, and so does each revision
+abbrev pub WorldsHaveClusters : Type 0
+WorldsHaveClusters =
+    (lines : List (List ℕ)) → IsCluster (world_after first_world lines).cluster × AllByRecursion IsCluster (revisions first_world lines)

@@ -1,18 +1,19 @@
 -- What holds of all worlds and lines (this project's own).
 use Rattle.std.specs.Prelude.{◌≡◌, ℕ, ◌+◌, List, ◌∷◌, ◌++◌, length, IsTrue}
 use Rattle.suite_run.specs.declared.item.Item.TheVariants.{Blank}
-use Rattle.suite_run.specs.Blocks.{block_text, world_after, blocks}
+use Rattle.command_words.specs.declared.command.Command.{Command}
+use Rattle.suite_run.specs.Blocks.{world_after, shown, blocks}
 use Rattle.suite_run.specs.World.{WorldData, item_of, is_refusal, outcome, happens}
 
 abbrev pub IsRefused : WorldData → List ℕ → Type 0
 IsRefused w line = IsTrue (is_refusal (outcome w line))
 
 -- the same blocks stand before and after the block of a refused line and where a blank line stands in its place
-pub record SameBlocks (number : ℕ) (w : WorldData) (before : List (List ℕ)) (line blank : List ℕ) (after : List (List ℕ)) : Type 0 where
+pub record SameBlocks (command : Command) (number : ℕ) (w : WorldData) (before : List (List ℕ)) (line blank : List ℕ) (after : List (List ℕ)) : Type 0 where
   pub front : List ℕ
   pub back : List ℕ
-  pub refused : blocks number w (before ++ line ∷ after) ≡ front ++ (block_text (number + length before) (outcome (world_after w before) line) ++ back)
-  pub without : blocks number w (before ++ blank ∷ after) ≡ front ++ back
+  pub refused : blocks command number w (before ++ line ∷ after) ≡ front ++ (shown command (record { number = number + length before; outcome = outcome (world_after w before) line }) ++ back)
+  pub without : blocks command number w (before ++ blank ∷ after) ≡ front ++ back
 
 -- a refused line leaves the world as it was
 abbrev pub RefusedLinesChangeNothing : Type 0
@@ -21,5 +22,5 @@ RefusedLinesChangeNothing = (w : WorldData) (line : List ℕ) → IsRefused w li
 -- so the blocks of all other lines are those that come where a blank line stands in its place
 abbrev pub RefusedLinesAreAsBlank : Type 0
 RefusedLinesAreAsBlank =
-    (number : ℕ) (w : WorldData) (before : List (List ℕ)) (line blank : List ℕ) (after : List (List ℕ)) →
-    IsRefused (world_after w before) line → item_of blank ≡ Blank → SameBlocks number w before line blank after
+    (command : Command) (number : ℕ) (w : WorldData) (before : List (List ℕ)) (line blank : List ℕ) (after : List (List ℕ)) →
+    IsRefused (world_after w before) line → item_of blank ≡ Blank → SameBlocks command number w before line blank after

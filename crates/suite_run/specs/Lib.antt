@@ -1,4 +1,5 @@
 pub mod Blocks
+pub mod Ends
 pub mod Exit
 pub mod History
 pub mod Laws

@@ -1,5 +1,6 @@
 -- What is told of a line, as the code has it.
-use Rattle.std.specs.Prelude.{◌≡◌, ℕ, Result, Ok, Err}
+use Rattle.std.specs.Prelude.{◌≡◌, ℕ, List, [], if◌then◌else◌, Result, Ok, Err}
+use Rattle.command_words.specs.declared.command.Command.{Command}
 use Rattle.cluster_objects.specs.declared.change.ClusterRefusal.{ClusterRefusal}
 use Rattle.cluster_objects.specs.declared.change.ClusterRefusal.TheVariants.{NoMemory}
 use Rattle.cluster_objects.specs.Changes.{Outcomes}
@@ -10,7 +11,7 @@ use Rattle.suite_run.specs.declared.world.LineOutcome.{LineOutcome}
 use Rattle.suite_run.specs.declared.world.LineOutcome.TheVariants as outcome
 use Rattle.suite_run.specs.declared.blocks.LineBlock.{LineBlock}
 use Rattle.suite_run.specs.declared.world.World.{World}
-use Rattle.suite_run.specs.Blocks.{block_text}
+use Rattle.suite_run.specs.Blocks.{block_text, shows}
 use Rattle.suite_run.specs.declared.world.Differences.{Differences}
 use Rattle.suite_run.specs.World.{OutcomeData, Step, WorldData, is_refusal, silent, revision, node_count, no_change, passed_over, refused, judged}
 
@@ -44,3 +45,7 @@ pub record Shows (number : ℕ) (step : Step) (world : WorldData) (block : LineB
   pub world_is : world ≡ step.world
   pub text : block.text ≡ block_text number step.outcome
   pub refusal : block.refusal ≡ is_refusal step.outcome
+
+-- what a command writes of a line's block
+abbrev pub part_of : Command → LineBlock → List ℕ
+part_of command block = if shows command block.refusal then block.text else []

@@ -1,23 +1,27 @@
--- What the words of a call mean, and what is told of a run beside its output (this project's own).
-use Rattle.std.specs.Prelude.{◌≡◌, ℕ, Option, Some, None, unwrap_or, List, [], ◌∷◌, ◌++◌, length, take, codes, if◌then◌else◌, ◌⊎◌}
+-- The files of a command, and what is told of a run beside its output (this project's own).
+use Rattle.std.specs.Prelude.{◌≡◌, ℕ, zero, suc, unwrap_or, List, [], ◌∷◌, ◌++◌, length, take, slice_get, codes, ◌⊎◌}
 use Rattle.cl_types.specs.Causes.{Rose}
 use Rattle.cl_io.specs.Files.{Adds}
 use Rattle.cl_io.specs.Lines.{line_feed}
 use Rattle.cl_io.specs.Sink.{SinkState}
-use Rattle.cl_types.specs.Text.{text_eq}
+use Rattle.command_words.specs.declared.command.Command.{Command}
+use Rattle.command_words.specs.declared.command.Command.TheVariants.{Check, Replay}
+use Rattle.command_words.specs.Words.{words_mean}
 use Rattle.suite_run.specs.declared.status.Status.{Status}
 use Rattle.suite_run.specs.declared.status.Status.TheVariants.{Done, SomeRefused, BadWords, OpenFault, ReadFault, WriteFault, NoMemory, InputTooLong}
 
--- the file whose lines are replayed: the words are exactly `replay` and its name
-abbrev pub words_mean : List (List ℕ) → Option (List ℕ)
-words_mean [] = None
-words_mean (word ∷ []) = None
-words_mean (word ∷ name ∷ []) = if text_eq word (codes "replay") then Some name else None
-words_mean (word ∷ name ∷ more ∷ words) = None
+-- the command that the words mean; where they mean none, one without files
+abbrev pub meant : List (List ℕ) → Command
+meant words = unwrap_or (words_mean words) (Check [])
 
--- the name, where the words mean a command
-abbrev pub file_of : List (List ℕ) → List ℕ
-file_of words = unwrap_or (words_mean words) []
+abbrev pub files_of : Command → List (List ℕ)
+files_of (Check files) = files
+files_of (Replay ring files) = files
+
+-- the last of the first so many names
+abbrev pub last_of : ℕ → List (List ℕ) → List ℕ
+last_of zero names = []
+last_of (suc count) names = unwrap_or (slice_get names count) []
 
 abbrev pub line_of : List ℕ → List ℕ
 line_of text = text ++ (line_feed ∷ [])

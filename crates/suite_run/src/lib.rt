@@ -12,7 +12,7 @@ mod top;
 mod words;
 mod world;
 
-pub use laws::{refused_lines_change_nothing, revisions_have_their_clusters};
+pub use laws::{refused_lines_change_nothing, revisions_have_their_clusters, worlds_have_clusters};
 pub use site::Site;
 pub use status::Status;
 pub use top::calm;

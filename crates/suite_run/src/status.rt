@@ -1,5 +1,5 @@
 //! How a run ends.
-ghost use Rattle.std.specs.Prelude.{◌≡◌};
+ghost use Rattle.std.specs.Prelude.{◌≡◌, nat_lt};
 ghost use Rattle.suite_run.specs.Run.{fault_status, final_status};
 ghost use Rattle.suite_run.specs.Exit.{exit_code_of};
 
@@ -42,11 +42,11 @@ impl Status {
         }
     }
 
-    /// Of a run that read and answered the whole input.
-    pub(crate) fn of_whole(refused: bool) -> Status
-        ensures { result ≡ final_status refused }
+    /// Of a run that read and answered the whole input, of which so many lines were refused.
+    pub(crate) fn of_whole(refused: u64) -> Status
+        ensures { result ≡ final_status (nat_lt 0 refused) }
     {
-        if refused {
+        if refused > 0 {
             Status::SomeRefused
         } else {
             Status::Done

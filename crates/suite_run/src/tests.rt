@@ -101,12 +101,13 @@ pub(crate) fn replayed(
 
 #[test]
 fn words_that_are_no_command(rt: HostRuntime) {
-    let cases: [&[&str]; 5] = [
+    let cases: [&[&str]; 6] = [
         &[],
         &["replay"],
-        &["replay", "F", "F"],
-        &["check", "F"],
+        &["check"],
         &["replay", "--ring", "0", "F"],
+        &["live", "F"],
+        &["drill", "10"],
     ];
     for words in cases {
         let ran = replayed(&rt, rt.alloc(), words, LINES, NONE);
@@ -209,4 +210,62 @@ fn an_empty_file_prints_nothing(rt: HostRuntime) {
     let ran = replayed(&rt, rt.alloc(), &["replay", "F"], b"", NONE);
     assert_eq!(rt; ran.status, Status::Done);
     assert!(rt; ran.out.is_empty());
+}
+
+// Runs the words over the two lines, as often as they name the file `F`.
+fn writes(rt: &impl Abort, alloc: Global, words: &[&str], status: u8, out: &[u8], said: &[u8]) {
+    let ran = replayed(rt, alloc, words, LINES, NONE);
+    assert_eq!(rt; ran.status.exit_code(), status);
+    assert_eq!(rt; ran.out.as_slice(), out);
+    assert_eq!(rt; ran.err.as_slice(), said);
+}
+
+#[test]
+fn commands_over_several_files(rt: HostRuntime) {
+    let alloc = rt.alloc();
+    let twice: &[u8] =
+        b"1 refused BadShape .\n2 refused BadShape .\n3 refused BadShape .\n4 refused BadShape .\n";
+    writes(
+        &rt,
+        alloc,
+        &["replay", "--ring", "1", "F", "F"],
+        1,
+        twice,
+        b"",
+    );
+    // The second file is missing: what is due of the first is written, and no count.
+    let missing: &[u8] = b"antrea: cannot open nofile\n";
+    writes(&rt, alloc, &["replay", "F", "nofile"], 3, BLOCKS, missing);
+    writes(
+        &rt,
+        alloc,
+        &["check", "F", "nofile", "F"],
+        3,
+        BLOCKS,
+        missing,
+    );
+    writes(
+        &rt,
+        alloc,
+        &["check", "F"],
+        1,
+        b"1 refused BadShape .\n2 refused BadShape .\n2 lines 2 refused\n",
+        b"",
+    );
+}
+
+#[test]
+fn check_writes_refusals_and_counts(rt: HostRuntime) {
+    // A blank line counts as a line, and as no refusal.
+    let lines: &[u8] =
+        b"\n1\n{\"kind\":\"Service\",\"apiVersion\":\"v1\",\"metadata\":{\"name\":\"s\"}}\n";
+    let ran = replayed(&rt, rt.alloc(), &["check", "F"], lines, NONE);
+    assert_eq!(rt; ran.status, Status::SomeRefused);
+    assert_eq!(rt;
+        ran.out.as_slice(),
+        b"2 refused BadShape .\n3 lines 1 refused\n".as_slice()
+    );
+    let ran = replayed(&rt, rt.alloc(), &["check", "F"], b"", NONE);
+    assert_eq!(rt; ran.status, Status::Done);
+    assert_eq!(rt; ran.out.as_slice(), b"0 lines 0 refused\n".as_slice());
 }

@@ -1,14 +1,15 @@
 //! The top call.
-ghost use Rattle.std.specs.Prelude.{◌≡◌, [], ◌∷◌, IfOk, map, string_bytes};
-ghost use Rattle.suite_run.specs.Run.{Ran, IsFinal, MeansNothing, Prints, Stops, Causes, Stays};
-ghost use Rattle.suite_run.specs.Words.{file_of, complaint, Says};
+ghost use Rattle.std.specs.Prelude.{IfOk, map, string_bytes};
+ghost use Rattle.suite_run.specs.Run.{Causes, Complains, IsFinal, MeansNothing, Prints, Ran, Stays, Stops};
+ghost use Rattle.suite_run.specs.Words.{files_of, meant};
 
 use crate::replay::replay;
 use crate::site::Site;
 use crate::status::Status;
-use crate::words::{complain, replayed_file};
+use crate::words::{complain, files_of, last_begun};
 use cl_io::{Files, Lines, Sink};
-use cl_types::{List, NoMemory, Text};
+use cl_types::Copies;
+use command_words::{Command, WordsFault, read_words};
 use std::alloc::Global;
 
 /// The most bytes of a line that is read.
@@ -17,28 +18,30 @@ const LINE_LIMIT: u64 = 1_048_576;
 /// The most bytes that are read of all files.
 const INPUT_LIMIT: u64 = 4_294_967_296;
 
-// The names of the files: this one.
-fn only_name(alloc: Global, name: &str) -> Result<List<Text>, NoMemory>
-    ensures { IfOk result (λ names. names ≡ name.now ∷ []) }
+// Writes what the command shows of the lines of its files, and tells why it stopped.
+fn run<F: Files, O: Sink, E: Sink>(
+    alloc: Global,
+    command: &Command,
+    files: &mut F,
+    out: &mut O,
+    err: &mut E,
+) -> Status
+    ensures ran { Ran command.now (files_of command.now) (F.state files.old) (O.state out.old) result (F.state files.new) (O.state out.new) }
+    ensures complains { Complains (files_of command.now) (F.state files.old) (E.state err.old) result (F.state files.new) (E.state err.new) }
 {
-    let mut names = Vec::with_capacity(alloc, 1)?;
-    names.push(Text::of(Vec::from_slice(alloc, name.as_bytes())?))?;
-    Ok(List::of(names))
-}
-
-// Writes the block of each line of the file.
-fn replay_file<F: Files, O: Sink>(alloc: Global, name: &str, files: &mut F, out: &mut O) -> Status
-    ensures { Ran (name.now ∷ []) (F.state files.old) (O.state out.old) result (F.state files.new) (O.state out.new) }
-{
-    let Ok(names) = only_name(alloc, name) else {
+    let Ok(names) = files_of(command).copy() else {
+        complain(err, Status::NoMemory, b"");
         return Status::NoMemory;
     };
     let mut lines = Lines::new(alloc, names, LINE_LIMIT, INPUT_LIMIT);
-    replay(alloc, &mut lines, files, out)
+    let status = replay(alloc, command, &mut lines, files, out);
+    complain(err, status, last_begun(&lines));
+    status
 }
 
-/// Does what the words after the program's name say. The one command so far, `replay` and the name of a file, writes
-/// the block of each line of the file.
+/// Does what the words after the program's name say. `replay` writes the block of each line of its files. `check`
+/// writes the blocks of refused lines alone, and then how many lines there are and how many of them are refused. With
+/// every other status than these of the whole input the text stops where the clause `stops` says.
 pub fn calm<F: Files, O: Sink, E: Sink>(
     alloc: Global,
     words: &Vec<String>,
@@ -49,22 +52,26 @@ pub fn calm<F: Files, O: Sink, E: Sink>(
 ) -> Status
     ensures words { MeansNothing (map string_bytes words.now.items)
         (F.state files.old) (O.state out.old) result (F.state files.new) (O.state out.new) }
-    ensures prints { IsFinal result → Prints (file_of (map string_bytes words.now.items) ∷ [])
+    ensures prints { IsFinal result → Prints (meant (map string_bytes words.now.items)) (files_of (meant (map string_bytes words.now.items)))
         (F.state files.old) (O.state out.old) result (F.state files.new) (O.state out.new) }
-    ensures stops { Stops (file_of (map string_bytes words.now.items) ∷ [])
+    ensures stops { Stops (meant (map string_bytes words.now.items)) (files_of (meant (map string_bytes words.now.items)))
         (F.state files.old) (O.state out.old) result (F.state files.new) (O.state out.new) }
-    ensures causes { Causes (file_of (map string_bytes words.now.items) ∷ [])
+    ensures causes { Causes (meant (map string_bytes words.now.items)) (files_of (meant (map string_bytes words.now.items)))
         (F.state files.old) (O.state out.old) result (F.state files.new) (O.state out.new) }
-    ensures says { Says (complaint result (file_of (map string_bytes words.now.items)))
-        (E.state err.old) (E.state err.new) }
-    ensures stays { Stays (file_of (map string_bytes words.now.items) ∷ [])
+    ensures complains { Complains (files_of (meant (map string_bytes words.now.items)))
+        (F.state files.old) (E.state err.old) result (F.state files.new) (E.state err.new) }
+    ensures stays { Stays (files_of (meant (map string_bytes words.now.items)))
         (F.state files.old) (O.state out.old) (F.state files.new) (O.state out.new) }
 {
-    let Some(name) = replayed_file(words.as_slice()) else {
-        complain(err, Status::BadWords, b"");
-        return Status::BadWords;
-    };
-    let status = replay_file(alloc, name, files, out);
-    complain(err, status, name.as_bytes());
-    status
+    match read_words(alloc, words.as_slice()) {
+        Ok(command) => run(alloc, &command, files, out, err),
+        Err(WordsFault::BadWords) => {
+            complain(err, Status::BadWords, b"");
+            Status::BadWords
+        }
+        Err(WordsFault::NoMemory) => {
+            complain(err, Status::NoMemory, b"");
+            Status::NoMemory
+        }
+    }
 }

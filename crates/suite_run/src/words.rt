@@ -1,18 +1,28 @@
-//! What the words of a call mean, and what is told beside the output.
-ghost use Rattle.std.specs.Prelude.{◌≡◌, ◌≤◌, [], ◌∷◌, ◌++◌, map, string_bytes};
-ghost use Rattle.std.specs.Option.{option_copied};
-ghost use Rattle.suite_run.specs.Words.{words_mean, complaint, line_of, Says};
+//! The files of a command, and what is told beside the output.
+ghost use Rattle.std.specs.Prelude.{◌≡◌, ◌++◌};
+ghost use Rattle.suite_run.specs.Words.{complaint, files_of, last_of, line_of, Says};
 
 use crate::status::Status;
-use cl_io::{Failed, Sink, put};
+use cl_io::{Failed, Lines, Sink, put};
+use cl_types::{List, Text};
+use command_words::Command;
 
-/// The file whose lines are replayed, where the words say so.
-pub(crate) fn replayed_file(words: &[String]) -> Option<&str>
-    ensures { option_copied result ≡ words_mean (map string_bytes words.now) }
+/// The names of the command's files.
+pub(crate) fn files_of(command: &Command) -> &List<Text>
+    ensures { result.now ≡ files_of command.now }
 {
-    match words {
-        [command, name] if command.as_str() == "replay" => Some(name.as_str()),
-        _ => None,
+    match command {
+        Command::Check { files } | Command::Replay { files, .. } => files,
+    }
+}
+
+/// The name that was begun last.
+pub(crate) fn last_begun(lines: &Lines) -> &[u8]
+    ensures { result.now ≡ last_of lines.now.begun lines.now.names }
+{
+    match lines.last_begun() {
+        Some(name) => name.as_slice(),
+        None => b"",
     }
 }
 

@@ -2,6 +2,7 @@
 -- groups).
 use Rattle.std.specs.Prelude.{ℕ, List, [], ◌∷◌, ◌++◌, Bool, true, false, ◌&&◌, ◌||◌, filter, map, Option, Some, None, option_map, if◌then◌else◌}
 use Rattle.std.specs.List.{list_any, flat_map}
+use Rattle.cl_types.specs.declared.addr.Addr.{Addr}
 use Rattle.cl_types.specs.declared.keys.Dir.{Dir}
 use Rattle.cl_types.specs.declared.keys.Dir.TheVariants.{Egress, Ingress}
 use Rattle.cl_types.specs.declared.service.PortName.{PortName}
@@ -18,8 +19,8 @@ use Rattle.cluster_types.specs.declared.policy.Peer.{Peer}
 use Rattle.cluster_types.specs.declared.policy.Peer.TheVariants as peer
 use Rattle.cluster_types.specs.declared.policy.Rule.{Rule}
 use Rattle.cluster_types.specs.Evaluation.{applies}
-use Rattle.cluster_types.specs.Groups.{in_group}
-use Rattle.cluster_types.specs.Node.{NodeData}
+use Rattle.cluster_types.specs.Choice.{egress_counts}
+use Rattle.cluster_types.specs.Groups.{in_group, members_by}
 use Rattle.cluster_types.specs.Pod.{PodData}
 use Rattle.cluster_types.specs.Policy.{PolicyData}
 use Rattle.cluster_types.specs.Cluster.{ClusterData}
@@ -62,11 +63,15 @@ net_egress e = record { name = e.name; address = e.address; node = e.node; appli
 
 -- ---- members of groups
 
+-- the member that an address of the pod makes
+abbrev pub held_member : PodData → Addr → MemberData
+held_member p a = record { address = a; ports = p.ports }
+
 abbrev pub pod_members : PodData → List MemberData
-pod_members p = map (λ a. record { address = a; ports = p.ports }) p.addresses
+pod_members p = map (held_member p) p.addresses
 
 abbrev pub group_members : ClusterData → Group → List MemberData
-group_members c g = ascending_members (flat_map pod_members (filter (in_group c g) c.pods))
+group_members c g = ascending_members (members_by held_member c g)
 
 abbrev pub is_on : List ℕ → PodData → Bool
 is_on node p = text_eq p.node node
@@ -79,10 +84,6 @@ members_on c node g = ascending_members (flat_map pod_members (filter (λ p. is_
 -- the policy applies to a counting pod on the node
 abbrev pub policy_is_on : ClusterData → List ℕ → PolicyData → Bool
 policy_is_on c node policy = list_any (λ p. is_on node p && applies c policy p) c.pods
-
--- an Egress counts where its node is listed
-abbrev pub egress_counts : ClusterData → EgressData → Bool
-egress_counts c e = list_any (λ (n : NodeData). text_eq n.name e.node) c.nodes
 
 -- the Egress counts, and selects a counting pod on the node or leaves by it
 abbrev pub egress_is_on : ClusterData → List ℕ → EgressData → Bool

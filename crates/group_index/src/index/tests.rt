@@ -1,7 +1,11 @@
-ghost use Rattle.std.specs.Prelude.{◌≡◌, [], ◌∷◌};
+ghost use Rattle.std.specs.Prelude.{◌≡◌, [], ◌∷◌, List as Items};
+ghost use Rattle.group_index.specs.Changes.{before_pod};
+ghost use Rattle.group_index.specs.Index.{EntryData, StandsFor};
 
 use super::GroupIndex;
-use cl_types::{Addr, List, PodKey, Text};
+use crate::change::GroupChange;
+use crate::laws::index_stands_before;
+use cl_types::{Addr, Copies, List, PodKey, Text, find};
 use cluster_objects::{Change, Cluster, Object, Pod};
 use label_select::{
     GroupKey, Labels, Need, Op, Scope, Selector, are_label_values, canon, is_label_key,
@@ -52,13 +56,33 @@ fn key(rt: &impl Abort, alloc: Global, name: &[u8]) -> PodKey {
     }
 }
 
-// Puts a pod whose label `app` is `cli`.
-fn put_client(rt: &impl Abort, alloc: Global, c: &mut Cluster, name: &[u8], node: &[u8], a: u32) {
+// Puts a pod that is new to the cluster.
+fn put_new(rt: &impl Abort, c: &mut Cluster, pod: Pod)
+    ensures { (index : Items EntryData) → StandsFor index c.old.cluster → StandsFor index (before_pod None (Some pod) c.new.cluster) }
+{
+    index_stands_before();
+    c.keeps_its_form();
+    if find(c.pods(), &pod.key).is_some() {
+        panic!(rt; "the pod is there");
+    }
+    if c.try_apply(Change::Put(Object::Pod(pod))).is_err() {
+        panic!(rt; "the pod is refused");
+    }
+}
+
+fn copy_of(rt: &impl Abort, pod: &Pod) -> Pod
+    ensures { result ≡ pod.now }
+{
+    pod.copy().expect(rt, "memory")
+}
+
+// A pod whose label `app` is `cli`.
+fn client(rt: &impl Abort, alloc: Global, name: &[u8], node: &[u8], a: u32) -> Pod {
     let mut labels = Labels::new(alloc);
     labels
         .put(text(rt, alloc, b"app"), text(rt, alloc, b"cli"))
         .expect(rt, "memory");
-    let pod = Pod {
+    Pod {
         key: key(rt, alloc, name),
         node: text(rt, alloc, node),
         addresses: one(rt, alloc, Addr::V4(a)),
@@ -66,8 +90,7 @@ fn put_client(rt: &impl Abort, alloc: Global, c: &mut Cluster, name: &[u8], node
         ended: false,
         labels,
         ports: List::new(alloc),
-    };
-    assert!(rt; c.try_apply(Change::Put(Object::Pod(pod))).is_ok());
+    }
 }
 
 fn members_count(rt: &impl Abort, alloc: Global, index: &GroupIndex) -> usize {
@@ -77,29 +100,58 @@ fn members_count(rt: &impl Abort, alloc: Global, index: &GroupIndex) -> usize {
     }
 }
 
-// A second pod of the group comes, on another node; later the group isn't used any more.
+// The index of the group.
+fn index_of(rt: &impl Abort, alloc: Global, c: &Cluster) -> GroupIndex
+    ensures { StandsFor result c.now.cluster }
+{
+    let mut index = GroupIndex::new(alloc).expect(rt, "memory");
+    if index.put_group(c, &group(rt, alloc)).is_err() {
+        panic!(rt; "memory");
+    }
+    index
+}
+
+fn is_one_addition(changes: &List<GroupChange>) -> bool {
+    match changes.as_slice() {
+        [change] => change.added.as_slice().len() == 1 && change.removed.as_slice().is_empty(),
+        _ => false,
+    }
+}
+
+fn is_on(rt: &impl Abort, alloc: Global, index: &GroupIndex, node: &[u8]) -> bool {
+    index.is_on(&group(rt, alloc), &text(rt, alloc, node))
+}
+
+// How many groups contain the pod, and on how many nodes their members are.
+fn groups_and_nodes(
+    rt: &impl Abort,
+    alloc: Global,
+    index: &GroupIndex,
+    pod: &PodKey,
+) -> (usize, usize) {
+    let groups = index.groups_of(pod).expect(rt, "memory");
+    let nodes = index
+        .nodes_of(alloc, groups.as_slice())
+        .expect(rt, "memory");
+    (groups.as_slice().len(), nodes.len())
+}
+
+// A second pod of the group comes, on another node.
 #[test]
 fn members_follow_the_pods(host: HostRuntime) {
     let rt = &host;
     let alloc = host.alloc();
     let mut c = Cluster::new(alloc).expect(rt, "memory");
-    put_client(rt, alloc, &mut c, b"cli", b"n1", 6);
-    let mut index = GroupIndex::new(alloc).expect(rt, "memory");
-    let g = group(rt, alloc);
-    index.put_group(&c, &g).expect(rt, "memory");
+    put_new(rt, &mut c, client(rt, alloc, b"cli", b"n1", 6));
+    let mut index = index_of(rt, alloc, &c);
     assert!(rt; members_count(rt, alloc, &index) == 1);
-    put_client(rt, alloc, &mut c, b"cli2", b"n2", 5);
-    let changes = index.turn_to(&c).expect(rt, "memory");
-    assert!(rt; changes.as_slice().len() == 1);
-    assert!(rt; changes.as_slice()[0].added.as_slice().len() == 1);
-    assert!(rt; changes.as_slice()[0].removed.as_slice().is_empty());
+    let pod = client(rt, alloc, b"cli2", b"n2", 5);
+    put_new(rt, &mut c, copy_of(rt, &pod));
+    let changes = index.pod_changed(&c, None, Some(&pod)).expect(rt, "memory");
+    assert!(rt; is_one_addition(&changes));
     assert!(rt; members_count(rt, alloc, &index) == 2);
-    let groups = index
-        .groups_of(&key(rt, alloc, b"cli2"))
-        .expect(rt, "memory");
-    assert!(rt; groups.as_slice().len() == 1);
-    let nodes = index
-        .nodes_of(alloc, groups.as_slice())
-        .expect(rt, "memory");
-    assert!(rt; nodes.len() == 2);
+    assert!(rt; is_on(rt, alloc, &index, b"n2"));
+    assert!(rt; !is_on(rt, alloc, &index, b"n3"));
+    let (groups, nodes) = groups_and_nodes(rt, alloc, &index, &pod.key);
+    assert!(rt; groups == 1 && nodes == 2);
 }

@@ -1,0 +1,112 @@
+-- Groups come into use, and the index in which all that are named are in use.
+use Rattle.std.proofs.Common.{◌≡◌, List, [], ◌∷◌, ◌++◌, true, false, cond, Option, Some, None, IsSome, is_some, option_map, if◌then◌else◌, refl, sym, ap, subst, ◌∙◌}
+use Rattle.std.specs.List.{AllByRecursion, flat_map}
+use Rattle.std.specs.declared.cmp.Ordering.{Ordering}
+use Rattle.std.specs.declared.cmp.Ordering.TheVariants.{Less, Equal, Greater}
+use Rattle.std.specs.Ordering.{is_eq}
+use Rattle.std.proofs.lemmas.Cmp.{tied_itself}
+use Rattle.cl_types.specs.Ascending.{found, put}
+use Rattle.cl_types.specs.AscendingLaws.{all_put, found_at, found_holds, found_put}
+use Rattle.cl_types.specs.ListLaws.{all_weaker}
+use Rattle.cl_types.specs.OrderLaws.{text_order_exact}
+use Rattle.cl_types.specs.Text.{text_order, text_order_total}
+use Rattle.label_select.specs.Group.{Group, IsGroup}
+use Rattle.label_select.specs.Written.{group_text}
+use Rattle.cluster_types.specs.Choice.{egress_counts}
+use Rattle.cluster_types.specs.Cluster.{ClusterData}
+use Rattle.cluster_types.specs.Egress.{EgressData}
+use Rattle.cluster_types.specs.Policy.{PolicyData}
+use Rattle.group_index.specs.Index.{EntryData, StandsFor, at_group, entry_of, entry_text, first_use, more_use, with_use}
+use Rattle.watch_streams.specs.Projection.{policy_groups}
+use Rattle.ctl_core.specs.Naming.{AreGroups, TakesIntoUse, counting_group, groups_named, named_groups}
+use Rattle.ctl_core.specs.Sides.{IsInUse, IsSide, NamesInUse}
+
+abbrev pub TextsDiffer : Type 0
+TextsDiffer = (a b : Group) → IsGroup a → IsGroup b → group_text a ≡ group_text b → a ≡ b
+
+-- ---- one group
+
+-- a group whose text has an entry is in use
+pub used_already : TextsDiffer → (c : ClusterData) (g : Group) → IsGroup g → (index : List EntryData) → StandsFor index c → AreGroups index → IsSome (entry_of index g) → TakesIntoUse c g index index
+used_already differ c g form index stands groups some = record { stands = stands; groups = groups; used = by_entry (entry_of index g) refl some; keeps = λ h used. used }
+  where
+    by_entry : (o : Option EntryData) → entry_of index g ≡ o → IsSome o → option_map (λ (e : EntryData). e.group) o ≡ Some g
+    by_entry None is there = cc
+    by_entry (Some e) is there =
+        ap Some (differ e.group g (found_holds (at_group g) (λ (x : EntryData). IsGroup x.group) index e groups is) form (text_order_exact (group_text e.group) (group_text g) (found_at (at_group g) index e is)))
+
+module _ (c : ClusterData) (g : Group) (index : List EntryData) (none : entry_of index g ≡ None) where
+  put_first : with_use c g index ≡ put (at_group g) (first_use c g) index
+  unfolding with_use
+  put_first = ap (λ o. put (at_group g) (more_use c g o) index) none
+
+  entry_after : (h : Group) → entry_of (with_use c g index) h ≡ (if is_eq (text_order (group_text g) (group_text h)) then Some (first_use c g) else entry_of index h)
+  entry_after h = ap (λ xs. entry_of xs h) put_first ∙ found_put entry_text text_order_total (group_text h) (first_use c g) index
+
+  used_now : IsInUse (with_use c g index) g
+  used_now =
+      ap (option_map (λ (e : EntryData). e.group))
+      (entry_after g ∙ ap (λ r. if is_eq r then Some (first_use c g) else entry_of index g) (tied_itself text_order_total (group_text g)))
+
+  kept_in_use : (h : Group) → IsInUse index h → IsInUse (with_use c g index) h
+  kept_in_use h used = by_order (text_order (group_text g) (group_text h)) refl
+    where
+      same_entry : group_text g ≡ group_text h → entry_of index h ≡ None
+      same_entry e = ap (λ t. found (λ (x : EntryData). text_order (entry_text x) t) index) (sym e) ∙ none
+
+      to : (o : Option EntryData) → Type 0
+      to o = option_map (λ (e : EntryData). e.group) o ≡ Some h
+
+      by_order : (r : Ordering) → text_order (group_text g) (group_text h) ≡ r → IsInUse (with_use c g index) h
+      by_order Less is = ap (option_map (λ (e : EntryData). e.group)) (entry_after h ∙ ap (λ r. if is_eq r then Some (first_use c g) else entry_of index h) is) ∙ used
+      by_order Equal is =
+          let nothing : None ≡ Some h = ap (option_map (λ (e : EntryData). e.group)) (sym (same_entry (text_order_exact (group_text g) (group_text h) is))) ∙ used in
+          cc
+      by_order Greater is = ap (option_map (λ (e : EntryData). e.group)) (entry_after h ∙ ap (λ r. if is_eq r then Some (first_use c g) else entry_of index h) is) ∙ used
+
+  pub used_first : IsGroup g → StandsFor (with_use c g index) c → AreGroups index → TakesIntoUse c g index (with_use c g index)
+  used_first form stands groups = record {
+    stands = stands;
+    groups = subst AreGroups (sym put_first) (all_put (at_group g) (λ (e : EntryData). IsGroup e.group) (first_use c g) index form groups);
+    used = used_now;
+    keeps = kept_in_use;
+  }
+
+not_there : {T : Type 0} (o : Option T) → is_some o ≡ false → o ≡ None
+not_there None none = refl
+not_there (Some x) none = cc
+
+pub used_after : (c : ClusterData) (g : Group) → IsGroup g → (index new : List EntryData) → is_some (entry_of index g) ≡ false → new ≡ with_use c g index → StandsFor new c → AreGroups index → TakesIntoUse c g index new
+used_after c g form index new none is stands groups =
+    subst (TakesIntoUse c g index) (sym is) (used_first c g index (not_there (entry_of index g) none) form (subst (λ (es : List EntryData). StandsFor es c) is stands) groups)
+
+-- ---- all that are named
+
+parts : {T : Type 0} (P : T → Type 0) (xs ys : List T) → AllByRecursion P (xs ++ ys) → AllByRecursion P xs × AllByRecursion P ys
+parts P [] ys all = (tt, all)
+parts P (x ∷ xs) ys all = let rest = parts P xs ys all.1 in ((all.0, rest.0), rest.1)
+
+each_part : {A T : Type 0} (P : T → Type 0) (f : A → List T) (xs : List A) → AllByRecursion P (flat_map f xs) → AllByRecursion (λ x. AllByRecursion P (f x)) xs
+each_part P f [] all = tt
+each_part P f (x ∷ xs) all = let both = parts P (f x) (flat_map f xs) all in (both.0, each_part P f xs both.1)
+
+pub all_named : (c : ClusterData) (groups : List EntryData) → StandsFor groups c → AllByRecursion (IsInUse groups) (named_groups c) → IsSide c groups
+all_named c groups stands used = record {
+  stands = stands;
+  policies = all_weaker (λ (p : PolicyData). AllByRecursion (IsInUse groups) (groups_named p)) (NamesInUse groups) of_policy c.policies (each_part (IsInUse groups) groups_named c.policies both.0);
+  egresses = all_weaker (λ (e : EgressData). AllByRecursion (IsInUse groups) (counting_group c e)) _ of_egress c.egresses (each_part (IsInUse groups) (counting_group c) c.egresses both.1);
+}
+  where
+    both : AllByRecursion (IsInUse groups) (flat_map groups_named c.policies) × AllByRecursion (IsInUse groups) (flat_map (counting_group c) c.egresses)
+    both = parts (IsInUse groups) (flat_map groups_named c.policies) (flat_map (counting_group c) c.egresses) used
+
+    of_policy : (p : PolicyData) → AllByRecursion (IsInUse groups) (groups_named p) → NamesInUse groups p
+    of_policy p all = let named = parts (IsInUse groups) p.applied (policy_groups p) all in record { applied = named.0; peers = named.1 }
+
+    of_egress : (e : EgressData) → AllByRecursion (IsInUse groups) (counting_group c e) → egress_counts c e ≡ true → IsInUse groups e.applied
+    of_egress e all counts = let one : AllByRecursion (IsInUse groups) (e.applied ∷ []) = subst (λ b. AllByRecursion (IsInUse groups) (cond b (e.applied ∷ []) [])) counts all in one.0
+
+-- the first groups and one more
+pub used_more : (old new : List EntryData) (xs : List Group) (g : Group) → ((h : Group) → IsInUse old h → IsInUse new h) → IsInUse new g → AllByRecursion (IsInUse old) xs → AllByRecursion (IsInUse new) (xs ++ g ∷ [])
+used_more old new [] g keeps used all = (used, tt)
+used_more old new (x ∷ xs) g keeps used all = (keeps x all.0, used_more old new xs g keeps used all.1)

@@ -1,0 +1,10 @@
+mod Beginning
+mod Coming
+mod Concerns
+mod Edits
+mod InUse
+mod Keeping
+mod Indexes
+mod OneKept
+mod Revising
+mod SoFar

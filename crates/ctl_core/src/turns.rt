@@ -1,0 +1,80 @@
+//! The nodes are told what changed, one after another.
+ghost use Rattle.std.specs.Prelude.{◌≡◌, ◌≤◌, ◌<◌, ◌+◌, ◌++◌, ◌∷◌, [], cond, length, vec_len, vec_capacity, IfOk, OnErr};
+ghost use Rattle.cluster_types.specs.Limits.{max_nodes};
+ghost use Rattle.ctl_core.specs.Sides.{IsSide};
+ghost use Rattle.ctl_core.specs.Telling.{AreTold, NodeIsTold, TellsTheLive, cuts_of, listed_cuts, messages_of, streams_cut};
+
+use crate::outcome::StreamOf;
+use crate::side::Side;
+use crate::streams::NodePorts;
+use crate::telling::{NodeCuts, NodeNames, Turn, all_turns};
+use cl_types::{NoMemory, Rev};
+use std::alloc::Global;
+use watch_streams::Port;
+
+// Lists the stream, where it was cut. The room for it is there.
+fn push_if(listed: &mut Vec<StreamOf>, is_cut: bool, stream: StreamOf)
+    requires { vec_len listed.old < vec_capacity listed.old }
+    ensures items { listed.new.items ≡ listed.old.items ++ cond is_cut (stream ∷ []) [] }
+    ensures len { vec_len listed.new ≤ vec_len listed.old + 1 }
+    ensures capacity { vec_capacity listed.old ≤ vec_capacity listed.new }
+{
+    if !is_cut {
+        return;
+    }
+    match listed.push(stream) {
+        Ok(()) => {}
+        Err(_) => unreachable!(),
+    }
+}
+
+// Lists the streams of a node that were cut. The room for them is there.
+fn push_cuts(listed: &mut Vec<StreamOf>, cuts: NodeCuts, names: NodeNames)
+    requires { vec_len listed.old + 3 ≤ vec_capacity listed.old }
+    ensures items { listed.new.items ≡ listed.old.items ++ listed_cuts names cuts }
+    ensures len { vec_len listed.new ≤ vec_len listed.old + 3 }
+    ensures capacity { vec_capacity listed.old ≤ vec_capacity listed.new }
+{
+    push_if(listed, cuts.policies, names.policies);
+    push_if(listed, cuts.addresses, names.addresses);
+    push_if(listed, cuts.applied, names.applied);
+}
+
+// Tells a node, and lists its streams that were cut.
+fn tell_one<P: Port + Drop>(n: &mut NodePorts<P>, turn: Turn, listed: &mut Vec<StreamOf>)
+    requires live { TellsTheLive turn.messages n.old }
+    requires room { vec_len listed.old + 3 ≤ vec_capacity listed.old }
+    ensures told { NodeIsTold P.state P.same turn.messages (cuts_of n.old n.new) n.old n.new }
+    ensures items { listed.new.items ≡ listed.old.items ++ listed_cuts turn.names (cuts_of n.old n.new) }
+    ensures len { vec_len listed.new ≤ vec_len listed.old + 3 }
+    ensures capacity { vec_capacity listed.old ≤ vec_capacity listed.new }
+{
+    let cuts = n.tell(turn.messages);
+    push_cuts(listed, cuts, turn.names);
+}
+
+/// Tells each live stream what changed on it at the revision that leads from the old side to the new one, and lists the
+/// streams that were cut. All messages are made before the first one is offered.
+pub(crate) fn tell_all<P: Port + Drop>(
+    alloc: Global,
+    old: &Side,
+    new: &Side,
+    rev: Rev,
+    nodes: &mut Vec<NodePorts<P>>,
+) -> Result<Vec<StreamOf>, NoMemory>
+    requires old { IsSide old.now.cluster.cluster old.now.groups }
+    requires new { IsSide new.now.cluster.cluster new.now.groups }
+    requires few { length nodes.old.items ≤ max_nodes }
+    ensures told { IfOk result (λ _. AreTold P.state P.same (messages_of old.now.cluster.cluster new.now.cluster.cluster rev) nodes.old.items nodes.new.items) }
+    ensures listed { IfOk result (λ listed. listed.items ≡ streams_cut nodes.old.items nodes.new.items) }
+    ensures err { OnErr result (nodes.new ≡ nodes.old) }
+{
+    let turns = all_turns(alloc, old, new, rev, nodes.as_slice())?;
+    let mut listed = Vec::with_capacity(alloc, 3 * turns.len())?;
+    let mut i = 0;
+    for turn in turns {
+        tell_one(&mut nodes[i], turn, &mut listed);
+        i += 1;
+    }
+    Ok(listed)
+}

@@ -1,0 +1,9 @@
+use Rattle.std.proofs.Common.{◌≡◌, take}
+use Rattle.std.specs.List.{flat_map}
+use Rattle.std.specs.Option.{option_copied}
+use Rattle.group_index.specs.Settled.{addresses_if}
+use Rattle.group_index.proofs.concern.namespace_addresses.Given as goal
+
+-- those of the pods so far
+abbrev pub invariant-loop-pod : goal.invariant-loop-pod
+invariant-loop-pod l = l.addresses.items ≡ flat_map (addresses_if (option_copied l.old) l.name) (take l.pod-index l.pods)

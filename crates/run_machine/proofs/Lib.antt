@@ -1,0 +1,15 @@
+mod Changing
+mod Cutting
+mod Falling
+mod Lining
+mod Lists
+mod Nodes
+mod Present
+mod Reading
+mod Rejoining
+mod Rings
+mod Settling
+mod Sites
+mod Starting
+mod Taking
+mod Worlds

@@ -1,0 +1,5 @@
+pub mod Laws
+pub mod Lines
+pub mod Machine
+pub mod Settling
+pub mod Streams

@@ -1,0 +1,3 @@
+mod History
+mod Sorting
+mod Titles
