@@ -1,5 +1,5 @@
 -- Which command words mean (this project's own; how options and values stand among words is that of getopt_long(3)).
-use Rattle.std.specs.Prelude.{◌≡◌, Bool, true, false, ℕ, List, [], ◌∷◌, Option, Some, None, codes, pos, if◌then◌else◌, unwrap_or, Result, Ok, Err}
+use Rattle.std.specs.Prelude.{◌≡◌, ◌≤◌, Bool, true, false, ℕ, List, [], ◌∷◌, Option, Some, None, codes, pos, if◌then◌else◌, unwrap_or, Result, Ok, Err}
 use Rattle.std.specs.Str.Parse.{digits_value, without_leading_plus}
 use Rattle.cl_types.specs.Text.{text_eq}
 use Rattle.clap.specs.Words.{App, Row, Rule, all_of, fault_of, matches_of, new_app, new_rule, one_of, with_rule}
@@ -62,6 +62,14 @@ abbrev pub Reads : Option Command → Result Command WordsFault → Type 0
 Reads meant (Ok command) = meant ≡ Some command
 Reads meant (Err BadWords) = meant ≡ None
 Reads meant (Err NoMemory) = Unit {0}
+
+-- a stream has from 1 to 4096 places
+abbrev pub IsRing : ℕ → Type 0
+IsRing places = (1 ≤ places) × (places ≤ 4096)
+
+abbrev pub HasRing : Command → Type 0
+HasRing (Check files) = Unit {0}
+HasRing (Replay ring files) = IsRing ring
 
 abbrev pub no_memory : WordsFault
 no_memory = NoMemory

@@ -2,7 +2,7 @@
 ghost use Rattle.std.specs.Prelude.{◌≡◌, ◌≢◌, false, true, None, map, string_bytes, IfOk, IfErr, unwrap_or, OnOk};
 ghost use Rattle.clap.specs.Words.{app_of, found_of, is_simple_and_free, kind_of, matches_of, rows_of, rule_of};
 ghost use Rattle.clap.specs.Simple.{is_simple};
-ghost use Rattle.command_words.specs.Words.{Reads, are_taken, check_app, check_of, files_in, files_rule, replay_app, replay_of, ring_in, ring_rule, words_mean};
+ghost use Rattle.command_words.specs.Words.{HasRing, IsRing, Reads, are_taken, check_app, check_of, files_in, files_rule, replay_app, replay_of, ring_in, ring_rule, words_mean};
 
 use crate::command::{Command, WordsFault};
 use cl_types::{List, NoMemory, Text};
@@ -99,18 +99,23 @@ fn files(alloc: Global, matches: &ArgMatches) -> Result<List<Text>, NoMemory>
     }
 }
 
-// The number of `--ring`. A value that passed its parser is one.
+// The number of `--ring`. A value that passed its parser is one from 1 to 4096.
 fn ring(matches: &ArgMatches) -> Result<u32, NoMemory>
-    ensures { IfOk result (λ places. places ≡ ring_in (rows_of (found_of matches.now))) }
+    ensures value { IfOk result (λ places. places ≡ ring_in (rows_of (found_of matches.now))) }
+    ensures range { IfOk result IsRing }
 {
-    match matches.get_one::<u32>("ring") {
-        Some(ring) => Ok(ring),
-        None => Err(NoMemory),
+    let Some(ring) = matches.get_one::<u32>("ring") else {
+        return Err(NoMemory);
+    };
+    if ring < 1 || ring > 4096 {
+        return Err(NoMemory);
     }
+    Ok(ring)
 }
 
 fn check(alloc: Global, words: &[String]) -> Result<Command, WordsFault>
-    ensures { Reads (check_of (map string_bytes words.now)) result }
+    ensures reads { Reads (check_of (map string_bytes words.now)) result }
+    ensures ring { IfOk result HasRing }
 {
     let command = check_command(alloc)?;
     match matched(command, words) {
@@ -122,7 +127,8 @@ fn check(alloc: Global, words: &[String]) -> Result<Command, WordsFault>
 }
 
 fn replay(alloc: Global, words: &[String]) -> Result<Command, WordsFault>
-    ensures { Reads (replay_of (map string_bytes words.now)) result }
+    ensures reads { Reads (replay_of (map string_bytes words.now)) result }
+    ensures ring { IfOk result HasRing }
 {
     let command = replay_command(alloc)?;
     match matched(command, words) {
@@ -139,7 +145,8 @@ fn replay(alloc: Global, words: &[String]) -> Result<Command, WordsFault>
 /// words mean no command, a call for help among them.
 #[tactic(auto, unfolding(crate::specs::Words::words_mean))]
 pub fn read_words(alloc: Global, words: &[String]) -> Result<Command, WordsFault>
-    ensures { Reads (words_mean (map string_bytes words.now)) result }
+    ensures reads { Reads (words_mean (map string_bytes words.now)) result }
+    ensures ring { IfOk result HasRing }
 {
     match words {
         [] => Err(WordsFault::BadWords),

@@ -16,10 +16,11 @@ use Rattle.std.proofs.lemmas.List.Elements.{All-head, All-tail}
 use Rattle.suite_run.specs.declared.status.Status.{Status}
 use Rattle.suite_run.specs.declared.status.Status.TheVariants.{BadWords, OpenFault, ReadFault, WriteFault, NoMemory, InputTooLong}
 use Rattle.command_words.specs.declared.command.Command.{Command}
-use Rattle.suite_run.specs.Blocks.{blocks, refused_count, ending, due_so_far, due_in_all, any_refused}
+use Rattle.suite_run.specs.Blocks.{blocks, world_of_command, refused_count, ending, due_so_far, due_in_all, any_refused}
 use Rattle.suite_run.specs.Run.{AddsFront, IsFinal, IsAnswered, IsUnopened, IsUnreadable, IsOverfull, IsNamed, Stays, Ran, whole_files, text_due, final_status, fault_status}
 use Rattle.suite_run.specs.Ends.{Concludes, Replayed}
-use Rattle.suite_run.specs.World.{WorldData, input_limit, first_world}
+use Rattle.suite_run.specs.declared.world.World.{World}
+use Rattle.suite_run.specs.World.{input_limit}
 use Rattle.suite_run.proofs.Running.{start, Faultless, IsTruthful, Running, telling, added, AddsSome-all, due_front, NextFront, next_faultless}
 use Rattle.suite_run.proofs.Wholes.{whole_files-of, whole_files-append}
 
@@ -33,16 +34,16 @@ pub record Leaving (command : Command) (names : List (List ℕ)) (f0 : FilesStat
   pub front : IsSome f.taken → AddsFront o0.written (text_due command names f0) o.written
 
 -- the blocks so far are the front of what is due
-pub run_front : (command : Command) (names : List (List ℕ)) (f0 : FilesState) (o0 : SinkState) (r : Reading) (f : FilesState) (o : SinkState) (w : WorldData) (refused : ℕ) (number : ℕ) → Running command names f0 o0 r f o w refused number →
+pub run_front : (command : Command) (names : List (List ℕ)) (f0 : FilesState) (o0 : SinkState) (r : Reading) (f : FilesState) (o : SinkState) (w : World) (refused : ℕ) (number : ℕ) → Running command names f0 o0 r f o w refused number →
     IsTruthful f → IsSome f.taken → AddsFront o0.written (text_due command names f0) o.written
 run_front command names f0 o0 r f o w refused number run truthful taken =
     let d = due_front command names f0 r f run.done run.kept run.stands truthful taken in
-    let text = blocks command 1 first_world run.done in
+    let text = blocks command 1 (world_of_command command) run.done in
     let P : List ℕ → Type 0 = λ z. Adds o0.written z o.written in
     (length text, subst P (sym (ap (take (length text)) d.split ∙ take-append_seam text d.rest)) run.written)
 
 -- nothing more was written
-pub leaving : (command : Command) (names : List (List ℕ)) (f0 : FilesState) (o0 : SinkState) (r : Reading) (f : FilesState) (o : SinkState) (w : WorldData) (refused : ℕ) (number : ℕ) → Running command names f0 o0 r f o w refused number →
+pub leaving : (command : Command) (names : List (List ℕ)) (f0 : FilesState) (o0 : SinkState) (r : Reading) (f : FilesState) (o : SinkState) (w : World) (refused : ℕ) (number : ℕ) → Running command names f0 o0 r f o w refused number →
     IsTruthful f → (r' : Reading) (f' : FilesState) → Kept r f r' f' → Leaving command names f0 o0 f' o
 leaving command names f0 o0 r f o w refused number run truthful r' f' step =
     record {
@@ -54,10 +55,10 @@ leaving command names f0 o0 r f o w refused number run truthful r' f' step =
     }
 
 -- a part of the next block was written
-pub part_front : (command : Command) (names : List (List ℕ)) (f0 : FilesState) (o0 : SinkState) (r : Reading) (f : FilesState) (o : SinkState) (w : WorldData) (refused : ℕ) (number : ℕ) (run : Running command names f0 o0 r f o w refused number)
+pub part_front : (command : Command) (names : List (List ℕ)) (f0 : FilesState) (o0 : SinkState) (r : Reading) (f : FilesState) (o : SinkState) (w : World) (refused : ℕ) (number : ℕ) (run : Running command names f0 o0 r f o w refused number)
     (text : List ℕ) (count : ℕ) (new : Option (List ℕ)) → count ≤ length text → Adds o.written (take count text) new → NextFront command names f0 run.done text → AddsFront o0.written (text_due command names f0) new
 part_front command names f0 o0 r f o w refused number run text count new within written d =
-    let done = blocks command 1 first_world run.done in
+    let done = blocks command 1 (world_of_command command) run.done in
     let e : take (length done + count) (text_due command names f0) ≡ done ++ take count text =
     ap (take (length done + count)) d.split ∙ (take-append-add done (text ++ d.rest) count ∙ ap (λ z. done ++ z) (take-append-le count text d.rest within)) in
     let P : List ℕ → Type 0 = λ z. Adds o0.written z new in
@@ -169,11 +170,11 @@ stands_within names f0 r done f kept stands =
 -- ---- faults of the input
 
 -- the blocks are those of these lines
-written_lines : (command : Command) (names : List (List ℕ)) (f0 : FilesState) (o0 : SinkState) (r : Reading) (f : FilesState) (o : SinkState) (w : WorldData) (refused : ℕ) (number : ℕ) (run : Running command names f0 o0 r f o w refused number)
+written_lines : (command : Command) (names : List (List ℕ)) (f0 : FilesState) (o0 : SinkState) (r : Reading) (f : FilesState) (o : SinkState) (w : World) (refused : ℕ) (number : ℕ) (run : Running command names f0 o0 r f o w refused number)
     (entries : List Entry) → whole_lines entries ≡ run.done → Adds o0.written (due_so_far command entries) o.written
 unfolding due_so_far
 written_lines command names f0 o0 r f o w refused number run entries e =
-    let P : List (List ℕ) → Type 0 = λ z. Adds o0.written (blocks command 1 first_world z) o.written in subst P (sym e) run.written
+    let P : List (List ℕ) → Type 0 = λ z. Adds o0.written (blocks command 1 (world_of_command command) z) o.written in subst P (sym e) run.written
 
 length-names_of : (entries : List Entry) → length (names_of entries) ≡ length entries
 length-names_of [] = refl
@@ -204,7 +205,7 @@ pub rose_more : (a b c : ℕ) → a ≤ b → Rose b c → Rose a c
 rose_more a b c h (inl lt) = inl (omega (arith, h, lt))
 rose_more a b c h (inr e) = inr e
 
-pub line_fault : (command : Command) (names : List (List ℕ)) (f0 : FilesState) (o0 : SinkState) (r : Reading) (f : FilesState) (o : SinkState) (w : WorldData) (refused : ℕ) (number : ℕ) (run : Running command names f0 o0 r f o w refused number) →
+pub line_fault : (command : Command) (names : List (List ℕ)) (f0 : FilesState) (o0 : SinkState) (r : Reading) (f : FilesState) (o : SinkState) (w : World) (refused : ℕ) (number : ℕ) (run : Running command names f0 o0 r f o w refused number) →
     IsTruthful f → (r' : Reading) (f' : FilesState) → IsTruthful f' → Kept r f r' f' → (stop : LineFault) →
     (stop ≡ fault.Begin → Leaves Unopened r f r' f') → (stop ≡ fault.Read → Leaves Unreadable r f r' f') → (stop ≡ fault.InputTooLong → Leaves Overfull r f r' f') →
     (stop ≡ fault.Begin → (0 < r'.begun) × Rose f.faults f'.faults) → (stop ≡ fault.Read → (0 < r'.begun) × Rose f.faults f'.faults) →
@@ -262,21 +263,21 @@ line_fault command names f0 o0 r f o w refused number run truthful r' f' truthfu
 -- ---- the end
 
 -- the whole text is the blocks of these lines and what the command ends with
-pub whole_due : (command : Command) (names : List (List ℕ)) (f0 : FilesState) (o0 : SinkState) (r : Reading) (f : FilesState) (o : SinkState) (w : WorldData) (refused : ℕ) (number : ℕ) (run : Running command names f0 o0 r f o w refused number) →
-    whole_lines (whole_files f0.content names) ≡ run.done → text_due command names f0 ≡ blocks command 1 first_world run.done ++ ending command (number - 1) refused
+pub whole_due : (command : Command) (names : List (List ℕ)) (f0 : FilesState) (o0 : SinkState) (r : Reading) (f : FilesState) (o : SinkState) (w : World) (refused : ℕ) (number : ℕ) (run : Running command names f0 o0 r f o w refused number) →
+    whole_lines (whole_files f0.content names) ≡ run.done → text_due command names f0 ≡ blocks command 1 (world_of_command command) run.done ++ ending command (number - 1) refused
 unfolding due_in_all
 whole_due command names f0 o0 r f o w refused number run lines =
     let all = whole_lines (whole_files f0.content names) in
     let count : length run.done ≡ number - 1 = omega (arith, run.count) in
-    ap (λ z. blocks command 1 first_world z ++ ending command (length z) (refused_count first_world z)) lines
-    ∙ (ap (λ z. blocks command 1 first_world run.done ++ ending command z (refused_count first_world run.done)) count
-    ∙ ap (λ z. blocks command 1 first_world run.done ++ ending command (number - 1) z) (sym run.refused_is))
+    ap (λ z. blocks command 1 (world_of_command command) z ++ ending command (length z) (refused_count (world_of_command command) z)) lines
+    ∙ (ap (λ z. blocks command 1 (world_of_command command) run.done ++ ending command z (refused_count (world_of_command command) run.done)) count
+    ∙ ap (λ z. blocks command 1 (world_of_command command) run.done ++ ending command (number - 1) z) (sym run.refused_is))
 
-refused_lines : (refused : ℕ) (entries : List Entry) (done : List (List ℕ)) → whole_lines entries ≡ done → refused ≡ refused_count first_world done → any_refused entries ≡ nat_lt 0 refused
+refused_lines : (command : Command) (refused : ℕ) (entries : List Entry) (done : List (List ℕ)) → whole_lines entries ≡ done → refused ≡ refused_count (world_of_command command) done → any_refused command entries ≡ nat_lt 0 refused
 unfolding any_refused
-refused_lines refused entries done e is = ap (λ z. nat_lt 0 (refused_count first_world z)) e ∙ ap (nat_lt 0) (sym is)
+refused_lines command refused entries done e is = ap (λ z. nat_lt 0 (refused_count (world_of_command command) z)) e ∙ ap (nat_lt 0) (sym is)
 
-pub concluded : (command : Command) (names : List (List ℕ)) (f0 : FilesState) (o0 : SinkState) (r : Reading) (f : FilesState) (o : SinkState) (w : WorldData) (refused : ℕ) (number : ℕ) (run : Running command names f0 o0 r f o w refused number) →
+pub concluded : (command : Command) (names : List (List ℕ)) (f0 : FilesState) (o0 : SinkState) (r : Reading) (f : FilesState) (o : SinkState) (w : World) (refused : ℕ) (number : ℕ) (run : Running command names f0 o0 r f o w refused number) →
     IsTruthful f → (r' : Reading) (f' : FilesState) → Kept r f r' f' → Leaves IsFinished r f r' f' → IsTruthful f' → (status : Status) (o' : SinkState) →
     Concludes (ending command (number - 1) refused) refused o status o' → Replayed command names f0 o0 status r' f' o'
 concluded command names f0 o0 r f o w refused number run truthful r' f' step leaves truthful' status o' c =
@@ -289,7 +290,7 @@ concluded command names f0 o0 r f o w refused number run truthful r' f' step lea
     let text = ending command (number - 1) refused in
     let due = λ (t : IsSome f'.taken). whole_due command names f0 o0 r f o w refused number run (lines t) in
     let front : IsSome f'.taken → NextFront command names f0 run.done text =
-    λ t. record { rest = []; split = due t ∙ ap (λ z. blocks command 1 first_world run.done ++ z) (sym (append-nil text)) } in
+    λ t. record { rest = []; split = due t ∙ ap (λ z. blocks command 1 (world_of_command command) run.done ++ z) (sym (append-nil text)) } in
     let l : Leaving command names f0 o0 f' o' = record {
       reading = r';
       kept = kept;
@@ -303,7 +304,7 @@ concluded command names f0 o0 r f o w refused number run truthful r' f' step lea
     let A : List ℕ → Type 0 = λ z. Adds o.written z o'.written in
     let whole : Adds o.written text o'.written = subst A (ap (λ z. take z text) (c.whole final) ∙ take_all (length text) text (omega arith)) c.written in
     let D : List ℕ → Type 0 = λ z. Adds o0.written z o'.written in
-    subst D (sym (due t)) (Adds-more o0.written (blocks command 1 first_world run.done) o.written text o'.written run.written whole) in
+    subst D (sym (due t)) (Adds-more o0.written (blocks command 1 (world_of_command command) run.done) o.written text o'.written run.written whole) in
     let R : Status → Type 0 = λ z. Ran command names f0 o0 z f' o' in
     let ran : (status ≡ final_status (nat_lt 0 refused)) ⊎ ((status ≡ WriteFault) ⊎ (status ≡ NoMemory)) → R status =
     λ stops. elim stops [
@@ -312,7 +313,7 @@ concluded command names f0 o0 r f o w refused number run truthful r' f' step lea
         prints = λ _. record {
           taken = AddsSome-is f0.taken _ (whole_files f0.content names) f'.taken left entries_are;
           written = all (subst IsFinal (sym e) (is_final (nat_lt 0 refused)));
-          refused = λ t. ap final_status (sym (refused_lines refused (whole_files f0.content names) run.done (lines t) run.refused_is));
+          refused = λ t. ap final_status (sym (refused_lines command refused (whole_files f0.content names) run.done (lines t) run.refused_is));
         };
         stops = record {
           tried = (r'.begun, tried_names command names f0 r' f' kept);

@@ -1,32 +1,23 @@
 -- Refused lines and blank lines leave the world as it was.
-use Rattle.std.proofs.Common.{◌≡◌, ℕ, ◌+◌, Bool, true, false, IsTrue, Result, Ok, Err, [], ◌∷◌, ◌++◌, length, refl, ap, ◌∙◌}
-use Rattle.cluster_objects.specs.declared.change.ClusterRefusal.{ClusterRefusal}
-use Rattle.cluster_objects.specs.Changes.{after, Outcomes}
-use Rattle.suite_run.specs.declared.item.Item.{Item}
-use Rattle.suite_run.specs.declared.item.Item.TheVariants.{Objects, Ignored, Ask, Blank, Refused}
+use Rattle.std.proofs.Common.{◌≡◌, ℕ, ◌+◌, Bool, true, false, IsTrue, List, [], ◌∷◌, ◌++◌, length, refl, ap, ◌∙◌, if◌then◌else◌}
 use Rattle.command_words.specs.declared.command.Command.{Command}
 use Rattle.command_words.specs.declared.command.Command.TheVariants.{Check, Replay}
+use Rattle.run_machine.specs.Lines.{after_line}
+use Rattle.run_machine.specs.Machine.{WorldData}
+use Rattle.suite_run.specs.declared.item.Item.{Item}
+use Rattle.suite_run.specs.declared.item.Item.TheVariants.{Blank}
 use Rattle.suite_run.specs.Blocks.{block_text, world_after, shown, blocks}
 use Rattle.suite_run.specs.Laws.{RefusedLinesChangeNothing, RefusedLinesAreAsBlank}
-use Rattle.suite_run.specs.World.{WorldData, step, step_of_changes, differs, item_of, is_refusal, outcome, happens}
+use Rattle.suite_run.specs.World.{step, line_of, item_of, is_refusal, told_of_item, outcome, happens}
 use Rattle.suite_run.proofs.Wholes.{told_at, blocks-append}
 
-no_refusal : (node other : Bool) (w : WorldData) → is_refusal (differs node other w).outcome ≡ false
-no_refusal node true w = refl
-no_refusal true false w = refl
-no_refusal false false w = refl
+stays_if : (b : Bool) (w new : WorldData) → IsTrue b → (if b then w else new) ≡ w
+stays_if true w new is = refl
+stays_if false w new is = cc
 
-refused-step_of_changes : (w : WorldData) (r : Result Outcomes ClusterRefusal) → IsTrue (is_refusal (step_of_changes w r).outcome) → (step_of_changes w r).world ≡ w
-refused-step_of_changes w (Ok o) h = let e = no_refusal o.node_changed o.other_changed (record w { cluster = o.cluster }) in cc
-refused-step_of_changes w (Err refusal) h = refl
-
-refused-step : (w : WorldData) (s : Item) → IsTrue (is_refusal (step w s).outcome) → (step w s).world ≡ w
+refused-step : (w : WorldData) (item : Item) → IsTrue (is_refusal (step w item).outcome) → (step w item).world ≡ w
 unfolding step
-refused-step w (Objects changes) h = refused-step_of_changes w (after w.cluster changes) h
-refused-step w (Ask node question) h = refl
-refused-step w (Ignored kind) h = refl
-refused-step w Blank h = refl
-refused-step w (Refused r) h = refl
+refused-step w item is = stays_if (is_refusal (told_of_item w item)) w (after_line (line_of item) w) is
 
 pub refused_lines : RefusedLinesChangeNothing
 refused_lines w line h = refused-step w (item_of line) h

@@ -12,10 +12,12 @@ use Rattle.cl_io.specs.Sink.{SinkState, Endures, Lowers, Takes}
 use Rattle.cl_io.specs.SinkLaws.{Lowers-none, Lowers-more}
 use Rattle.suite_run.specs.declared.blocks.LineBlock.{LineBlock}
 use Rattle.command_words.specs.declared.command.Command.{Command}
-use Rattle.suite_run.specs.Blocks.{world_after, shows, shown, blocks, count_if, refused_count, ending, due_in_all}
+use Rattle.suite_run.specs.Blocks.{world_after, world_of_command, shows, shown, blocks, count_if, refused_count, ending, due_in_all}
 use Rattle.suite_run.specs.Run.{IsTelling, text_due, whole_files}
-use Rattle.suite_run.specs.Shown.{Shows, part_of}
-use Rattle.suite_run.specs.World.{WorldData, line_limit, input_limit, first_world, item_of, step, is_refusal, outcome, happens}
+use Rattle.suite_run.specs.Shown.{IsReady, IsWorld, Shows, part_of}
+use Rattle.run_machine.specs.Machine.{WorldData, last_revision}
+use Rattle.suite_run.specs.declared.world.World.{World}
+use Rattle.suite_run.specs.World.{line_limit, input_limit, item_of, step, is_refusal, outcome, happens}
 use Rattle.suite_run.proofs.Revisions.{revision-step}
 use Rattle.suite_run.proofs.Wholes.{told_at, Begins-all, world_after-append, blocks-append, refused_count-append, refused_count-le}
 
@@ -30,34 +32,40 @@ Faultless command names f0 o0 faults = IsTrue o0.steady → IsTelling names f0 �
 abbrev pub IsTruthful : FilesState → Type 0
 IsTruthful f = IfSome f.taken (All (IsOfContent f.content))
 
+-- the world of the machine after some lines
+abbrev pub here : Command → List (List ℕ) → WorldData
+here command done = world_after (world_of_command command) done
+
 -- the blocks of some lines were written, and the reader handed out no others
-pub record Running (command : Command) (names : List (List ℕ)) (f0 : FilesState) (o0 : SinkState) (r : Reading) (f : FilesState) (o : SinkState) (w : WorldData) (refused : ℕ) (number : ℕ) : Type 0 where
+pub record Running (command : Command) (names : List (List ℕ)) (f0 : FilesState) (o0 : SinkState) (r : Reading) (f : FilesState) (o : SinkState) (w : World) (refused : ℕ) (number : ℕ) : Type 0 where
   pub done : List (List ℕ)
   pub count : length done + 1 ≡ number
   pub kept : Kept (start names) f0 r f
   pub stands : Stands f0 done r f
-  pub world_is : w ≡ world_after first_world done
-  pub refused_is : refused ≡ refused_count first_world done
-  pub revisions : w.revision + 1 ≤ number
+  pub ready : IsReady w
+  pub world_is : IsWorld w (here command done)
+  pub refused_is : refused ≡ refused_count (world_of_command command) done
+  pub revisions : last_revision (here command done) + 1 ≤ number
   pub used_up : number ≤ used r + 1
-  pub written : Adds o0.written (blocks command 1 first_world done) o.written
-  pub free : Lowers o0.free (length (blocks command 1 first_world done)) o.free
+  pub written : Adds o0.written (blocks command 1 (world_of_command command) done) o.written
+  pub free : Lowers o0.free (length (blocks command 1 (world_of_command command) done)) o.free
   pub endures : Endures o0 o
   pub faultless : Faultless command names f0 o0 o.faults
 
 -- ---- before the first line
 
-pub Running-none : (command : Command) (names : List (List ℕ)) (f0 : FilesState) (o0 : SinkState) (r : Reading) (w : WorldData) → r ≡ start names → ((base : FilesState) → Stands base [] r base) → w ≡ first_world →
+pub Running-none : (command : Command) (names : List (List ℕ)) (f0 : FilesState) (o0 : SinkState) (r : Reading) (w : World) → r ≡ start names → ((base : FilesState) → Stands base [] r base) → IsReady w → IsWorld w (world_of_command command) →
     Running command names f0 o0 r f0 o0 w 0 1
-Running-none command names f0 o0 r w fresh stands e =
+Running-none command names f0 o0 r w fresh stands ready is =
     record {
       done = [];
       count = refl;
       kept = let P : Reading → Type 0 = λ z. Kept (start names) f0 z f0 in subst P (sym fresh) (Kept-none (start names) f0);
       stands = stands f0;
-      world_is = e;
+      ready = ready;
+      world_is = is;
       refused_is = refl;
-      revisions = let P : WorldData → Type 0 = λ z. z.revision + 1 ≤ 1 in subst P (sym e) (omega arith);
+      revisions = omega arith;
       written = Adds-none o0.written;
       free = Lowers-none o0.free;
       used_up = let P : Reading → Type 0 = λ z. 1 ≤ used z + 1 in subst P (sym fresh) (omega arith);
@@ -101,7 +109,7 @@ telling names f0 r f kept tells =
 
 pub record Fronts (command : Command) (names : List (List ℕ)) (f0 : FilesState) (done : List (List ℕ)) : Type 0 where
   pub rest : List ℕ
-  pub split : text_due command names f0 ≡ blocks command 1 first_world done ++ rest
+  pub split : text_due command names f0 ≡ blocks command 1 (world_of_command command) done ++ rest
 
 pub due_front : (command : Command) (names : List (List ℕ)) (f0 : FilesState) (r : Reading) (f : FilesState) (done : List (List ℕ)) → Kept (start names) f0 r f → Stands f0 done r f → IsTruthful f →
     IsSome f.taken → Fronts command names f0 done
@@ -112,12 +120,12 @@ due_front command names f0 r f done kept stands truthful taken =
     let lines : whole_lines (whole_files f0.content names) ≡ done ++ b.rest =
     ap (λ z. whole_lines (whole_files z names)) (sym kept.lasts.content) ∙ (ap (λ z. whole_lines (whole_files f.content z)) (sym kept.task.names) ∙ b.split) in
     let all = whole_lines (whole_files f0.content names) in
-    let end = ending command (length all) (refused_count first_world all) in
-    let more = blocks command (1 + length done) (world_after first_world done) b.rest in
+    let end = ending command (length all) (refused_count (world_of_command command) all) in
+    let more = blocks command (1 + length done) (world_after (world_of_command command) done) b.rest in
     record {
       rest = more ++ end;
-      split = ap (λ z. blocks command 1 first_world z ++ end) lines
-          ∙ (ap (λ z. z ++ end) (blocks-append command 1 first_world done b.rest) ∙ append_assoc (blocks command 1 first_world done) more end);
+      split = ap (λ z. blocks command 1 (world_of_command command) z ++ end) lines
+          ∙ (ap (λ z. z ++ end) (blocks-append command 1 (world_of_command command) done b.rest) ∙ append_assoc (blocks command 1 (world_of_command command) done) more end);
     }
 
 -- ---- one line more
@@ -139,17 +147,16 @@ handed f0 done (TooLong count) r f some more hands stands =
 handed f0 done End r f some more hands stands = absurd (some refl)
 
 -- the block of the line is the next one
-next_blocks : (command : Command) (done : List (List ℕ)) (bytes : List ℕ) (number : ℕ) (w : WorldData) (text : List ℕ) → length done + 1 ≡ number → w ≡ world_after first_world done → text ≡ shown command (told_at number (outcome w bytes)) →
-    blocks command 1 first_world (done ++ bytes ∷ []) ≡ blocks command 1 first_world done ++ text
-next_blocks command done bytes number w text count world_is e =
+next_blocks : (command : Command) (done : List (List ℕ)) (bytes : List ℕ) (number : ℕ) (text : List ℕ) → length done + 1 ≡ number → text ≡ shown command (told_at number (outcome (here command done) bytes)) →
+    blocks command 1 (world_of_command command) (done ++ bytes ∷ []) ≡ blocks command 1 (world_of_command command) done ++ text
+next_blocks command done bytes number text count e =
     let n : 1 + length done ≡ number = omega (arith, count) in
-    let own : ℕ → WorldData → List ℕ = λ k z. shown command (told_at k (outcome z bytes)) in
-    let here : own (1 + length done) (world_after first_world done) ++ [] ≡ text =
-    append-nil (own (1 + length done) (world_after first_world done)) ∙ (ap (λ k. own k (world_after first_world done)) n ∙ (ap (own number) (sym world_is) ∙ sym e)) in
-    blocks-append command 1 first_world done (bytes ∷ []) ∙ ap (λ z. blocks command 1 first_world done ++ z) here
+    let own : ℕ → List ℕ = λ k. shown command (told_at k (outcome (here command done) bytes)) in
+    let last : own (1 + length done) ++ [] ≡ text = append-nil (own (1 + length done)) ∙ (ap own n ∙ sym e) in
+    blocks-append command 1 (world_of_command command) done (bytes ∷ []) ∙ ap (λ z. blocks command 1 (world_of_command command) done ++ z) last
 
 -- what is written of the block is what the command shows of the line
-part_is : (command : Command) (number : ℕ) (w : WorldData) (bytes : List ℕ) (w' : WorldData) (block : LineBlock) → Shows number (step w (item_of bytes)) w' block →
+part_is : (command : Command) (number : ℕ) (w : WorldData) (bytes : List ℕ) (w' : World) (block : LineBlock) → Shows number (step w (item_of bytes)) w' block →
     part_of command block ≡ shown command (told_at number (outcome w bytes))
 part_is command number w bytes w' block follows =
     ap (λ b. if shows command b then block.text else []) follows.refusal ∙ ap (λ z. if shows command (is_refusal (outcome w bytes)) then z else []) follows.text
@@ -168,34 +175,34 @@ faultless_of result (Some room) size faults faults' h = λ fits. (h fits).faultl
 -- the text that is due goes on with the block
 pub record NextFront (command : Command) (names : List (List ℕ)) (f0 : FilesState) (done : List (List ℕ)) (text : List ℕ) : Type 0 where
   pub rest : List ℕ
-  pub split : text_due command names f0 ≡ blocks command 1 first_world done ++ (text ++ rest)
+  pub split : text_due command names f0 ≡ blocks command 1 (world_of_command command) done ++ (text ++ rest)
 
-pub next_front : (command : Command) (names : List (List ℕ)) (f0 : FilesState) (o0 : SinkState) (r : Reading) (f : FilesState) (o : SinkState) (w : WorldData) (refused : ℕ) (number : ℕ) (run : Running command names f0 o0 r f o w refused number)
-    (r' : Reading) (f' : FilesState) (line : Line) (h : Handed f0 run.done line r' f') (w' : WorldData) (block : LineBlock) → Shows number (step w (item_of h.bytes)) w' block →
+pub next_front : (command : Command) (names : List (List ℕ)) (f0 : FilesState) (o0 : SinkState) (r : Reading) (f : FilesState) (o : SinkState) (w : World) (refused : ℕ) (number : ℕ) (run : Running command names f0 o0 r f o w refused number)
+    (r' : Reading) (f' : FilesState) (line : Line) (h : Handed f0 run.done line r' f') (w' : World) (block : LineBlock) → Shows number (step (here command run.done) (item_of h.bytes)) w' block →
     Kept (start names) f0 r' f' → IsTruthful f' → IsSome f'.taken → NextFront command names f0 run.done (part_of command block)
 next_front command names f0 o0 r f o w refused number run r' f' line h w' block follows kept truthful taken =
     let d = due_front command names f0 r' f' (run.done ++ h.bytes ∷ []) kept h.stands truthful taken in
-    let e = next_blocks command run.done h.bytes number w (part_of command block) run.count run.world_is (part_is command number w h.bytes w' block follows) in
-    record { rest = d.rest; split = d.split ∙ (ap (λ z. z ++ d.rest) e ∙ append_assoc (blocks command 1 first_world run.done) (part_of command block) d.rest) }
+    let e = next_blocks command run.done h.bytes number (part_of command block) run.count (part_is command number (here command run.done) h.bytes w' block follows) in
+    record { rest = d.rest; split = d.split ∙ (ap (λ z. z ++ d.rest) e ∙ append_assoc (blocks command 1 (world_of_command command) run.done) (part_of command block) d.rest) }
 
-pub next_faultless : (command : Command) (names : List (List ℕ)) (f0 : FilesState) (o0 : SinkState) (r : Reading) (f : FilesState) (o : SinkState) (w : WorldData) (refused : ℕ) (number : ℕ) (run : Running command names f0 o0 r f o w refused number)
+pub next_faultless : (command : Command) (names : List (List ℕ)) (f0 : FilesState) (o0 : SinkState) (r : Reading) (f : FilesState) (o : SinkState) (w : World) (refused : ℕ) (number : ℕ) (run : Running command names f0 o0 r f o w refused number)
     (text : List ℕ) (o' : SinkState) → (IsTelling names f0 → NextFront command names f0 run.done text) →
     (IsTrue o.steady → IfSome o.free (λ room. length text ≤ room → o'.faults ≡ o.faults)) → Faultless command names f0 o0 o'.faults
 next_faultless command names f0 o0 r f o w refused number run text o' front put = λ s t.
     let d = front t in
-    let fits : length (blocks command 1 first_world run.done) + length text ≤ length (text_due command names f0) =
-    omega (arith, ap length d.split, length-append (blocks command 1 first_world run.done) (text ++ d.rest), length-append text d.rest) in
+    let fits : length (blocks command 1 (world_of_command command) run.done) + length text ≤ length (text_due command names f0) =
+    omega (arith, ap length d.split, length-append (blocks command 1 (world_of_command command) run.done) (text ++ d.rest), length-append text d.rest) in
     room_left o0.free o.free _ _ _ _ _ _ fits run.free (run.faultless s t) (put (run.endures.steady s))
 
-pub Running-more : (command : Command) (names : List (List ℕ)) (f0 : FilesState) (o0 : SinkState) (r : Reading) (f : FilesState) (o : SinkState) (w : WorldData) (refused : ℕ) (number : ℕ) (run : Running command names f0 o0 r f o w refused number)
-    (r' : Reading) (f' : FilesState) (line : Line) (h : Handed f0 run.done line r' f') (w' : WorldData) (block : LineBlock) → Shows number (step w (item_of h.bytes)) w' block →
+pub Running-more : (command : Command) (names : List (List ℕ)) (f0 : FilesState) (o0 : SinkState) (r : Reading) (f : FilesState) (o : SinkState) (w : World) (refused : ℕ) (number : ℕ) (run : Running command names f0 o0 r f o w refused number)
+    (r' : Reading) (f' : FilesState) (line : Line) (h : Handed f0 run.done line r' f') (w' : World) (block : LineBlock) → Shows number (step (here command run.done) (item_of h.bytes)) w' block →
     Kept (start names) f0 r' f' → IsTruthful f' →
     (o' : SinkState) (refused' : ℕ) → used r < used r' → Adds o.written (part_of command block) o'.written → Lowers o.free (length (part_of command block)) o'.free → Endures o o' →
     (IsTrue o.steady → IfSome o.free (λ room. length (part_of command block) ≤ room → o'.faults ≡ o.faults)) →
     refused' ≡ refused + count_if block.refusal →
     Running command names f0 o0 r' f' o' w' refused' (number + 1)
 Running-more command names f0 o0 r f o w refused number run r' f' line h w' block follows kept truthful o' refused' uses written free endures succeeds refuses =
-    let e = next_blocks command run.done h.bytes number w (part_of command block) run.count run.world_is (part_is command number w h.bytes w' block follows) in
+    let e = next_blocks command run.done h.bytes number (part_of command block) run.count (part_is command number (here command run.done) h.bytes w' block follows) in
     let W : List ℕ → Type 0 = λ z. Adds o0.written z o'.written in
     let L : ℕ → Type 0 = λ z. Lowers o0.free z o'.free in
     record {
@@ -203,11 +210,12 @@ Running-more command names f0 o0 r f o w refused number run r' f' line h w' bloc
       count = omega (arith, run.count, length-append run.done (h.bytes ∷ []));
       kept = kept;
       stands = h.stands;
-      world_is = follows.world_is ∙ (ap (λ z. happens z h.bytes) run.world_is ∙ sym (world_after-append first_world run.done (h.bytes ∷ [])));
-      refused_is = refuses ∙ (ap (λ z. z + count_if block.refusal) run.refused_is ∙ (ap (λ z. refused_count first_world run.done + count_if z) (follows.refusal ∙ ap (λ z. is_refusal (outcome z h.bytes)) run.world_is) ∙ sym (refused_count-append first_world run.done h.bytes)));
-      revisions = omega (arith, run.revisions, ap (λ (z : WorldData). z.revision) follows.world_is, revision-step w (item_of h.bytes));
+      ready = follows.ready;
+      world_is = subst (IsWorld w') (sym (world_after-append (world_of_command command) run.done (h.bytes ∷ []))) follows.world_is;
+      refused_is = refuses ∙ (ap (λ z. z + count_if block.refusal) run.refused_is ∙ (ap (λ z. refused_count (world_of_command command) run.done + count_if z) follows.refusal ∙ sym (refused_count-append (world_of_command command) run.done h.bytes)));
+      revisions = let P : WorldData → Type 0 = λ z. last_revision z + 1 ≤ number + 1 in subst P (sym (world_after-append (world_of_command command) run.done (h.bytes ∷ []))) (omega (arith, run.revisions, revision-step (here command run.done) (item_of h.bytes)));
       written = subst W (sym e) (Adds-more o0.written _ o.written (part_of command block) o'.written run.written written);
-      free = subst L (sym (ap length e ∙ length-append (blocks command 1 first_world run.done) (part_of command block))) (Lowers-more o0.free _ o.free _ o'.free run.free free);
+      free = subst L (sym (ap length e ∙ length-append (blocks command 1 (world_of_command command) run.done) (part_of command block))) (Lowers-more o0.free _ o.free _ o'.free run.free free);
       used_up = omega (arith, run.used_up, uses);
       endures = record { later = omega (arith, run.endures.later, endures.later); steady = λ s. endures.steady (run.endures.steady s) };
       faultless = next_faultless command names f0 o0 r f o w refused number run (part_of command block) o' (λ t. next_front command names f0 o0 r f o w refused number run r' f' line h w' block follows kept truthful (telling names f0 r' f' kept t).1) succeeds;
@@ -231,5 +239,5 @@ of_err (Ok x) err p = cc
 of_err (Err e) err p = p
 
 -- fewer lines are refused than the number of the next one
-pub refused_few : (command : Command) (names : List (List ℕ)) (f0 : FilesState) (o0 : SinkState) (r : Reading) (f : FilesState) (o : SinkState) (w : WorldData) (refused : ℕ) (number : ℕ) → Running command names f0 o0 r f o w refused number → refused < number
-refused_few command names f0 o0 r f o w refused number run = omega (arith, run.refused_is, run.count, refused_count-le first_world run.done)
+pub refused_few : (command : Command) (names : List (List ℕ)) (f0 : FilesState) (o0 : SinkState) (r : Reading) (f : FilesState) (o : SinkState) (w : World) (refused : ℕ) (number : ℕ) → Running command names f0 o0 r f o w refused number → refused < number
+refused_few command names f0 o0 r f o w refused number run = omega (arith, run.refused_is, run.count, refused_count-le (world_of_command command) run.done)

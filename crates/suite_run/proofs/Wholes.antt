@@ -11,7 +11,8 @@ use Rattle.cl_io.specs.LinesLaws.{whole_lines-append, names_of-append}
 use Rattle.command_words.specs.declared.command.Command.{Command}
 use Rattle.suite_run.specs.Blocks.{Told, world_after, shown, blocks, count_if, refused_count}
 use Rattle.suite_run.specs.Run.{whole_files}
-use Rattle.suite_run.specs.World.{WorldData, OutcomeData, is_refusal, outcome, happens}
+use Rattle.run_machine.specs.Machine.{WorldData}
+use Rattle.suite_run.specs.World.{OutcomeData, is_refusal, outcome, happens}
 
 -- ---- files
 

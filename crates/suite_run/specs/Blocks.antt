@@ -4,60 +4,46 @@ use Rattle.std.specs.List.{flat_map}
 use Rattle.std.specs.Fmt.{decimal}
 use Rattle.cl_io.specs.Files.{Entry}
 use Rattle.cl_io.specs.Lines.{line_feed, whole_lines}
-use Rattle.cl_types.specs.Written.{pod_text, policy_text, judged_text}
+use Rattle.cl_types.specs.declared.stream.Stream.{Stream}
+use Rattle.cl_types.specs.declared.stream.Stream.TheVariants.{Policies, Addresses, Applied}
+use Rattle.cl_types.specs.Written.{judged_text}
 use Rattle.command_words.specs.declared.command.Command.{Command}
 use Rattle.command_words.specs.declared.command.Command.TheVariants.{Check, Replay}
-use Rattle.cluster_objects.specs.declared.change.ClusterRefusal.{ClusterRefusal}
-use Rattle.cluster_objects.specs.declared.change.ClusterRefusal.TheVariants as cluster
-use Rattle.json_fields.specs.declared.refusal.ReadRefusal.{ReadRefusal}
-use Rattle.json_fields.specs.declared.refusal.ReadRefusal.TheVariants as reading
-use Rattle.suite_run.specs.declared.item.Refusal.{Refusal}
-use Rattle.suite_run.specs.declared.item.Refusal.TheVariants.{Reading, NotBuilt, TooLong, Applying, NoNode}
-use Rattle.suite_run.specs.World.{WorldData, OutcomeData, silent, revision, node_count, no_change, passed_over, refused, judged, is_refusal, first_world, outcome, happens}
+use Rattle.line_refusals.specs.Texts.{refusal_text}
+use Rattle.run_machine.specs.Machine.{OfStreams, StreamOf, WorldData, first_world}
+use Rattle.suite_run.specs.World.{OutcomeData, silent, revision, node_count, no_change, passed_over, refused, judged, answered, delivered, was_cut, rejoined, settled, is_refusal, outcome, happens}
 
--- the refusal's name, and a space and the detail where there is one
-abbrev pub reading_text : ReadRefusal → List ℕ
-reading_text reading.NotJson = codes "NotJson"
-reading_text (reading.BadShape path) = codes "BadShape " ++ path
-reading_text (reading.Unsupported field) = codes "Unsupported " ++ field
-reading_text reading.BadName = codes "BadName"
-reading_text reading.BadLabel = codes "BadLabel"
-reading_text reading.BadSelector = codes "BadSelector"
-reading_text reading.BadAddr = codes "BadAddr"
-reading_text reading.BadPrefix = codes "BadPrefix"
-reading_text reading.BadPort = codes "BadPort"
-reading_text reading.BadPriority = codes "BadPriority"
-reading_text reading.BadAction = codes "BadAction"
-reading_text reading.BadControl = codes "BadControl"
-reading_text reading.NoMemory = []
+abbrev pub stream_name : Stream → List ℕ
+stream_name Policies = codes "policies"
+stream_name Addresses = codes "addresses"
+stream_name Applied = codes "applied"
 
-abbrev pub applying_text : ClusterRefusal → List ℕ
-applying_text cluster.NodesFixed = codes "NodesFixed"
-applying_text (cluster.CidrOverlap node) = codes "CidrOverlap " ++ node
-applying_text cluster.TierFixed = codes "TierFixed"
-applying_text (cluster.TierTaken tier) = codes "TierTaken " ++ tier
-applying_text (cluster.TierInUse policy) = codes "TierInUse " ++ policy_text policy
-applying_text (cluster.NoSuchTier tier) = codes "NoSuchTier " ++ tier
-applying_text (cluster.AddressInUse pod) = codes "AddressInUse " ++ pod_text pod
-applying_text (cluster.TooMany limit) = codes "TooMany " ++ decimal limit
-applying_text (cluster.TooManyMarks node) = codes "TooManyMarks " ++ node
-applying_text cluster.NoMemory = []
+-- a space, and n1/policies
+abbrev pub cut_text : StreamOf → List ℕ
+cut_text s = codes " " ++ (s.node ++ (codes "/" ++ stream_name s.stream))
 
-abbrev pub refusal_text : Refusal → List ℕ
-refusal_text (Reading refusal) = reading_text refusal
-refusal_text NotBuilt = codes "NotBuilt"
-refusal_text (TooLong count) = codes "TooLong " ++ decimal count
-refusal_text (Applying refusal) = applying_text refusal
-refusal_text NoNode = codes "NoNode"
+-- the streams that were cut, where there are any
+abbrev pub cuts_text : List StreamOf → List ℕ
+cuts_text [] = []
+cuts_text (s ∷ more) = codes " cut" ++ flat_map cut_text (s ∷ more)
+
+-- 3/2/3
+abbrev pub revisions_text : OfStreams ℕ → List ℕ
+revisions_text r = decimal r.policies ++ (codes "/" ++ (decimal r.addresses ++ (codes "/" ++ decimal r.applied)))
 
 abbrev pub outcome_text : OutcomeData → List ℕ
 outcome_text silent = []
-outcome_text (revision r) = codes "revision " ++ decimal r
+outcome_text (revision r cuts) = codes "revision " ++ (decimal r ++ cuts_text cuts)
 outcome_text (node_count k) = codes "nodes " ++ decimal k
 outcome_text no_change = codes "unchanged"
 outcome_text (passed_over kind) = codes "ignored " ++ kind
 outcome_text (refused r) = codes "refused " ++ refusal_text r
 outcome_text (judged r j) = codes "controller " ++ (decimal r ++ (codes " " ++ judged_text j))
+outcome_text (answered node r j) = node ++ (codes " " ++ (revisions_text r ++ (codes " " ++ judged_text j)))
+outcome_text (delivered k) = codes "delivered " ++ decimal k
+outcome_text was_cut = codes "cut"
+outcome_text (rejoined r) = codes "rejoined " ++ decimal r
+outcome_text (settled r) = codes "settled " ++ decimal r
 
 abbrev pub is_silent : OutcomeData → Bool
 is_silent silent = true
@@ -83,6 +69,15 @@ told n w [] = []
 told n w (line ∷ lines) = record { number = n; outcome = outcome w line } ∷ told (n + 1) (happens w line) lines
 
 -- ---- what a command writes of it
+
+-- for how many messages a stream has places
+abbrev pub ring_of : Command → ℕ
+ring_of (Check files) = 256
+ring_of (Replay ring files) = ring
+
+-- the world before the first line
+abbrev pub world_of_command : Command → WorldData
+world_of_command command = first_world (ring_of command)
 
 -- `check` shows refusals alone
 abbrev pub shows : Command → Bool → Bool
@@ -117,13 +112,13 @@ ending (Replay ring files) lines refusals = []
 
 -- the text that is due when the run can't go on after these files: the shown blocks of all their whole lines
 unfoldable pub due_so_far : Command → List Entry → List ℕ
-due_so_far command files = blocks command 1 first_world (whole_lines files)
+due_so_far command files = blocks command 1 (world_of_command command) (whole_lines files)
 
 -- the text that is due when these are all files
 unfoldable pub due_in_all : Command → List Entry → List ℕ
 due_in_all command files =
-    blocks command 1 first_world (whole_lines files)
-    ++ ending command (length (whole_lines files)) (refused_count first_world (whole_lines files))
+    blocks command 1 (world_of_command command) (whole_lines files)
+    ++ ending command (length (whole_lines files)) (refused_count (world_of_command command) (whole_lines files))
 
-unfoldable pub any_refused : List Entry → Bool
-any_refused files = nat_lt 0 (refused_count first_world (whole_lines files))
+unfoldable pub any_refused : Command → List Entry → Bool
+any_refused command files = nat_lt 0 (refused_count (world_of_command command) (whole_lines files))

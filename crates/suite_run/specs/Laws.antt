@@ -3,7 +3,9 @@ use Rattle.std.specs.Prelude.{◌≡◌, ℕ, ◌+◌, List, ◌∷◌, ◌++◌
 use Rattle.suite_run.specs.declared.item.Item.TheVariants.{Blank}
 use Rattle.command_words.specs.declared.command.Command.{Command}
 use Rattle.suite_run.specs.Blocks.{world_after, shown, blocks}
-use Rattle.suite_run.specs.World.{WorldData, item_of, is_refusal, outcome, happens}
+use Rattle.run_machine.specs.Laws.{IsSound}
+use Rattle.run_machine.specs.Machine.{WorldData, first_world}
+use Rattle.suite_run.specs.World.{item_of, is_refusal, outcome, happens}
 
 abbrev pub IsRefused : WorldData → List ℕ → Type 0
 IsRefused w line = IsTrue (is_refusal (outcome w line))
@@ -24,3 +26,8 @@ abbrev pub RefusedLinesAreAsBlank : Type 0
 RefusedLinesAreAsBlank =
     (command : Command) (number : ℕ) (w : WorldData) (before : List (List ℕ)) (line blank : List ℕ) (after : List (List ℕ)) →
     IsRefused (world_after w before) line → item_of blank ≡ Blank → SameBlocks command number w before line blank after
+
+-- whatever the lines, the world is sound: each map is what belongs on its stream at its revision, and verdicts at one revision
+-- are the policies' own
+abbrev pub LinesLeadToSoundWorlds : Type 0
+LinesLeadToSoundWorlds = (ring : ℕ) (lines : List (List ℕ)) → IsSound (world_after (first_world ring) lines)

@@ -68,7 +68,7 @@ AddsFront old list new = (count : ℕ) × Adds old (take count list) new
 pub record Prints (command : Command) (names : List (List ℕ)) (files : FilesState) (out : SinkState) (status : Status) (files' : FilesState) (out' : SinkState) : Type 0 where
   pub taken : Adds files.taken (whole_files files.content names) files'.taken
   pub written : IsSome files'.taken → Adds out.written (text_due command names files) out'.written
-  pub refused : IsSome files'.taken → status ≡ final_status (any_refused (whole_files files.content names))
+  pub refused : IsSome files'.taken → status ≡ final_status (any_refused command (whole_files files.content names))
 
 -- ---- where a run stops
 

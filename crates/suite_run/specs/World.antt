@@ -1,9 +1,12 @@
 -- What is known between two lines, what a line changes in it, and what is told of the line (this project's own).
-use Rattle.std.specs.Prelude.{ℕ, ◌+◌, List, [], ◌∷◌, length, Bool, true, false, ◌&&◌, ◌||◌, not, nat_lt, if◌then◌else◌, Option, Some, None, Result, Ok, Err}
+use Rattle.std.specs.Prelude.{ℕ, ◌+◌, List, [], ◌∷◌, length, Bool, true, false, ◌&&◌, ◌||◌, not, nat_lt, nat_le, find, if◌then◌else◌, Option, Some, None, Result, Ok, Err}
 use Rattle.std.specs.List.{list_all, list_any}
 use Rattle.std.specs.Option.{option_map, option_map_or}
 use Rattle.cl_types.specs.Text.{text_eq}
+use Rattle.cl_types.specs.declared.order.AgentOrder.{AgentOrder}
+use Rattle.cl_types.specs.declared.order.AgentOrder.TheVariants as order
 use Rattle.cl_types.specs.declared.question.Question.{Question}
+use Rattle.cl_types.specs.declared.stream.Stream.{Stream}
 use Rattle.cl_types.specs.Judgement.{Judgement}
 use Rattle.cluster_objects.specs.declared.change.ClusterRefusal.{ClusterRefusal}
 use Rattle.cluster_objects.specs.declared.change.ClusterRefusal.TheVariants as cluster
@@ -15,18 +18,21 @@ use Rattle.cluster_types.specs.declared.references.RefItem.{RefItem}
 use Rattle.cluster_types.specs.declared.references.RefItem.TheVariants.{Plain, PutPolicy}
 use Rattle.cluster_types.specs.declared.references.RefPolicy.{RefPolicy}
 use Rattle.cluster_types.specs.Evaluation.{side}
-use Rattle.cluster_types.specs.Node.{NodeData}
-use Rattle.cluster_types.specs.Cluster.{ClusterData, no_objects}
+use Rattle.watch_streams.specs.HeldEvaluation.{held_side}
+use Rattle.run_machine.specs.Lines.{LineData, objects, deliver, cut_stream, rejoin_stream, settle, quiet, after_line, delivering}
+use Rattle.run_machine.specs.Machine.{OfStreams, SiteData, StreamOf, WorldData, channel_on, last_revision}
 use Rattle.policy_reader.specs.declared.item.LineItem.{LineItem}
 use Rattle.policy_reader.specs.declared.item.LineItem.TheVariants as item
 use Rattle.control_lines.specs.declared.control.Control.{Control}
 use Rattle.control_lines.specs.declared.control.Control.TheVariants as control
+use Rattle.control_lines.specs.declared.control.NodeOrder.{NodeOrder}
 use Rattle.json_fields.specs.declared.refusal.ReadRefusal.{ReadRefusal}
 use Rattle.json_fields.specs.declared.refusal.ReadRefusal.TheVariants as reading
-use Rattle.suite_run.specs.declared.item.Refusal.{Refusal}
-use Rattle.suite_run.specs.declared.item.Refusal.TheVariants.{Reading, NotBuilt, TooLong, Applying, NoNode}
+use Rattle.line_refusals.specs.declared.refusal.Refusal.{Refusal}
+use Rattle.line_refusals.specs.declared.refusal.Refusal.TheVariants.{Reading, NotBuilt, TooLong, Applying, NoNode, NotCut, Full}
 use Rattle.suite_run.specs.declared.item.Item.{Item}
-use Rattle.suite_run.specs.declared.item.Item.TheVariants.{Objects, Ignored, Ask, Blank, Refused}
+use Rattle.suite_run.specs.declared.item.Item.TheVariants.{Objects, Ignored, Ask, AskHeld, Deliver, Cut, Rejoin, Settle, Blank, Refused}
+use Rattle.suite_run.specs.Changing.{cuts_between}
 use Rattle.policy_reader.specs.ReadLine.{read_line}
 
 -- ---- what a line says
@@ -71,14 +77,23 @@ abbrev pub built_objects : List RefItem → Item
 built_objects items = option_map_or Objects (all_built items) (Refused NotBuilt)
 
 abbrev pub item_of_control : Control → Item
+item_of_control (control.Deliver node stream count) = Deliver node stream count
+item_of_control (control.Cut node stream) = Cut node stream
+item_of_control (control.Rejoin node stream) = Rejoin node stream
+item_of_control control.Settle = Settle
 item_of_control (control.Ask node question) = Ask node question
 item_of_control _ = Refused NotBuilt
+
+-- of what agents are told to do, questions about what is held are answered, where they needn't wait
+abbrev pub item_of_order : NodeOrder → AgentOrder → Item
+item_of_order o (order.Ask question) = if o.settled then Refused NotBuilt else AskHeld o.node question
+item_of_order o _ = Refused NotBuilt
 
 abbrev pub item_of_line : LineItem → Item
 item_of_line (item.Objects items) = built_objects items
 item_of_line (item.Ignored kind) = Ignored kind
 item_of_line (item.Control c) = item_of_control c
-item_of_line (item.Order o) = Refused NotBuilt
+item_of_line (item.Order o) = item_of_order o o.order
 item_of_line item.Blank = Blank
 
 -- (a reader that ran out of memory says nothing of its line)
@@ -94,74 +109,111 @@ item_of line = if nat_lt line_limit (length line) then Refused (TooLong (length 
 
 pub data OutcomeData : Type 0 where
   silent : OutcomeData
-  revision : ℕ → OutcomeData
+  -- the revision, and the streams that were cut as it was told
+  revision : ℕ → List StreamOf → OutcomeData
   node_count : ℕ → OutcomeData
   no_change : OutcomeData
   passed_over : List ℕ → OutcomeData
   refused : Refusal → OutcomeData
+  -- the verdict of the policies at a revision
   judged : ℕ → Judgement → OutcomeData
+  -- the verdict of what a node's agent holds at its three revisions
+  answered : List ℕ → OfStreams ℕ → Judgement → OutcomeData
+  delivered : ℕ → OutcomeData
+  was_cut : OutcomeData
+  rejoined : ℕ → OutcomeData
+  settled : ℕ → OutcomeData
 
 abbrev pub is_refusal : OutcomeData → Bool
 is_refusal (refused r) = true
 is_refusal _ = false
 
--- ---- the world
+-- ---- what is told of changes
 
--- what is known between two lines: the cluster, and how many revisions were made
-pub record WorldData : Type 0 where
-  pub cluster : ClusterData
-  pub revision : ℕ
-
--- before the first line
-abbrev pub first_world : WorldData
-first_world = record { cluster = no_objects; revision = 0 }
-
--- the world after a line, and what is told of the line
-pub record Step : Type 0 where
-  pub world : WorldData
-  pub outcome : OutcomeData
-
--- the world stays as it is
-abbrev pub tells : WorldData → OutcomeData → Step
-tells w outcome = record { world = w; outcome = outcome }
-
--- the next revision
-abbrev pub revised : WorldData → Step
-revised w = record { world = record w { revision = w.revision + 1 }; outcome = revision (w.revision + 1) }
-
--- A change of a Node alone makes no revision: the nodes are counted instead.
-abbrev pub differs : Bool → Bool → WorldData → Step
-differs node true w = revised w
-differs true false w = tells w (node_count (length w.cluster.nodes))
-differs false false w = tells w no_change
-
-abbrev pub applied : WorldData → Outcomes → Step
-applied w o = differs o.node_changed o.other_changed (record w { cluster = o.cluster })
+-- A change of something other than a Node makes the next revision; one of a Node alone makes none, and the nodes are counted.
+abbrev pub told_of : Outcomes → WorldData → WorldData → OutcomeData
+told_of o w new =
+    if o.other_changed then revision (last_revision new) (cuts_between w.sites new.sites)
+    else (if o.node_changed then node_count (length o.cluster.nodes) else no_change)
 
 -- (changes that ran out of memory are no step)
 abbrev pub told_refusal : ClusterRefusal → OutcomeData
 told_refusal cluster.NoMemory = silent
 told_refusal refusal = refused (Applying refusal)
 
--- what changes came to
-abbrev pub step_of_changes : WorldData → Result Outcomes ClusterRefusal → Step
-step_of_changes w (Ok o) = applied w o
-step_of_changes w (Err refusal) = tells w (told_refusal refusal)
+abbrev pub told_of_changes : WorldData → List Change → Result Outcomes ClusterRefusal → OutcomeData
+told_of_changes w changes (Ok o) = told_of o w (after_line (objects changes) w)
+told_of_changes w changes (Err refusal) = told_refusal refusal
+
+-- ---- what is told of a node
 
 -- a node is listed once the nodes are fixed
-abbrev pub is_listed : ClusterData → List ℕ → Bool
-is_listed c name = c.fixed && list_any (λ (n : NodeData). text_eq n.name name) c.nodes
+abbrev pub has_name : List ℕ → SiteData → Bool
+has_name name x = text_eq x.node name
 
--- the answer to a question
-abbrev pub answer : WorldData → List ℕ → Question → OutcomeData
-answer w node question = if is_listed w.cluster node then judged w.revision (side w.cluster node question) else refused NoNode
+abbrev pub at_name : List ℕ → WorldData → Option SiteData
+at_name name w = find (has_name name) w.sites
+
+-- what is told of the node, where it is listed
+abbrev pub of_node : Option SiteData → (SiteData → OutcomeData) → OutcomeData
+of_node None tell = refused NoNode
+of_node (Some x) tell = tell x
+
+-- the answer to a question about the policies, and about what the node's agent holds
+abbrev pub judged_at : WorldData → Question → SiteData → OutcomeData
+judged_at w question x = judged (last_revision w) (side w.cluster x.node question)
+
+abbrev pub answered_at : Question → SiteData → OutcomeData
+answered_at question x = answered x.node x.revisions (held_side x.maps question)
+
+abbrev pub cut_told : Stream → SiteData → OutcomeData
+cut_told s x = if (channel_on s x).live then was_cut else no_change
+
+-- a live stream doesn't begin again, and none on which no place is left
+abbrev pub rejoin_told : WorldData → Stream → SiteData → OutcomeData
+rejoin_told w s x =
+    if (channel_on s x).live then refused NotCut
+    else (if nat_le w.ring (length (channel_on s x).queue) then refused Full else rejoined (last_revision w))
+
+abbrev pub delivered_told : Option Stream → Option ℕ → WorldData → Option (List ℕ) → OutcomeData
+delivered_told stream count w None = delivered (length (delivering None stream count w))
+delivered_told stream count w (Some name) = of_node (at_name name w) (λ x. delivered (length (delivering (Some name) stream count w)))
+
+-- ---- a line
+
+-- what is told of a line
+abbrev pub told_of_item : WorldData → Item → OutcomeData
+told_of_item w (Objects changes) = told_of_changes w changes (after w.cluster changes)
+told_of_item w (Ignored kind) = passed_over kind
+told_of_item w (Ask node question) = of_node (at_name node w) (judged_at w question)
+told_of_item w (AskHeld node question) = of_node (at_name node w) (answered_at question)
+told_of_item w (Deliver node stream count) = delivered_told stream count w node
+told_of_item w (Cut node stream) = of_node (at_name node w) (cut_told stream)
+told_of_item w (Rejoin node stream) = of_node (at_name node w) (rejoin_told w stream)
+told_of_item w Settle = settled (last_revision w)
+told_of_item w Blank = silent
+told_of_item w (Refused r) = refused r
+
+-- what the line makes happen in the machine
+abbrev pub line_of : Item → LineData
+line_of (Objects changes) = objects changes
+line_of (Deliver node stream count) = deliver node stream count
+line_of (Cut node stream) = cut_stream (record { node = node; stream = stream })
+line_of (Rejoin node stream) = rejoin_stream (record { node = node; stream = stream })
+line_of Settle = settle
+line_of _ = quiet
+
+-- the world after a line, and what is told of the line
+pub record Step : Type 0 where
+  pub world : WorldData
+  pub outcome : OutcomeData
+
+-- a refused line makes nothing happen
+abbrev pub happens_if : OutcomeData → LineData → WorldData → WorldData
+happens_if outcome line w = if is_refusal outcome then w else after_line line w
 
 unfoldable pub step : WorldData → Item → Step
-step w (Objects changes) = step_of_changes w (after w.cluster changes)
-step w (Ignored kind) = tells w (passed_over kind)
-step w (Ask node question) = tells w (answer w node question)
-step w Blank = tells w silent
-step w (Refused r) = tells w (refused r)
+step w item = record { world = happens_if (told_of_item w item) (line_of item) w; outcome = told_of_item w item }
 
 -- what is told of a line, and the world after it
 abbrev pub outcome : WorldData → List ℕ → OutcomeData

@@ -1,15 +1,16 @@
 //! The text that is printed of each line.
-ghost use Rattle.std.specs.Prelude.{◌≡◌, ◌++◌, [], ◌∷◌, OnOk, IfOk};
+ghost use Rattle.std.specs.Prelude.{◌≡◌, ◌++◌, [], ◌∷◌, codes, map, OnOk, IfOk};
+ghost use Rattle.std.specs.List.{flat_map};
 ghost use Rattle.std.specs.Fmt.{decimal};
-ghost use Rattle.suite_run.specs.Blocks.{reading_text, applying_text, refusal_text, outcome_text, is_silent, block_text};
-ghost use Rattle.suite_run.specs.Shown.{outcome_of};
+ghost use Rattle.suite_run.specs.Blocks.{cut_text, cuts_text, revisions_text, stream_name, outcome_text, is_silent, block_text};
+ghost use Rattle.suite_run.specs.Changing.{stream_told};
+ghost use Rattle.suite_run.specs.Shown.{outcome_of, three};
 ghost use Rattle.suite_run.specs.World.{is_refusal};
 
-use crate::item::Refusal;
 use crate::world::LineOutcome;
-use cl_types::{NoMemory, Text, write_bytes, write_judged, write_number, write_pod, write_policy};
-use cluster_objects::ClusterRefusal;
-use json_fields::ReadRefusal;
+use cl_types::{NoMemory, Rev, Stream, Text, write_bytes, write_judged, write_number};
+use ctl_core::StreamOf;
+use line_refusals::{write_counted, write_detail, write_refusal};
 use std::alloc::Global;
 
 /// What is printed of a line, and whether it says that the line is refused.
@@ -59,7 +60,10 @@ fn write_outcome(out: &mut Text, outcome: &LineOutcome) -> Result<(), NoMemory>
 {
     match outcome {
         LineOutcome::Silent => Ok(()),
-        LineOutcome::Revision(revision) => write_counted(out, b"revision ", *revision),
+        LineOutcome::Revision(revision, cut) => {
+            write_counted(out, b"revision ", *revision)?;
+            write_cuts(out, cut.as_slice())
+        }
         LineOutcome::Nodes(count) => write_counted(out, b"nodes ", *count),
         LineOutcome::Unchanged => write_bytes(out, b"unchanged"),
         LineOutcome::Ignored(kind) => write_detail(out, b"ignored ", kind),
@@ -72,74 +76,71 @@ fn write_outcome(out: &mut Text, outcome: &LineOutcome) -> Result<(), NoMemory>
             write_bytes(out, b" ")?;
             write_judged(out, judged)
         }
-    }
-}
-
-fn write_counted(out: &mut Text, word: &[u8], count: u64) -> Result<(), NoMemory>
-    ensures { OnOk result (out.new ≡ out.old ++ (word.now ++ decimal count)) }
-{
-    write_bytes(out, word)?;
-    write_number(out, count)
-}
-
-fn write_refusal(out: &mut Text, refusal: &Refusal) -> Result<(), NoMemory>
-    ensures { OnOk result (out.new ≡ out.old ++ refusal_text refusal.now) }
-{
-    match refusal {
-        Refusal::Reading(refusal) => write_reading(out, refusal),
-        Refusal::NotBuilt => write_bytes(out, b"NotBuilt"),
-        Refusal::TooLong(count) => write_counted(out, b"TooLong ", *count),
-        Refusal::Applying(refusal) => write_applying(out, refusal),
-        Refusal::NoNode => write_bytes(out, b"NoNode"),
-    }
-}
-
-fn write_detail(out: &mut Text, word: &[u8], detail: &Text) -> Result<(), NoMemory>
-    ensures { OnOk result (out.new ≡ out.old ++ (word.now ++ detail.now)) }
-{
-    write_bytes(out, word)?;
-    write_bytes(out, detail.as_slice())
-}
-
-fn write_reading(out: &mut Text, refusal: &ReadRefusal) -> Result<(), NoMemory>
-    ensures { OnOk result (out.new ≡ out.old ++ reading_text refusal.now) }
-{
-    match refusal {
-        ReadRefusal::NotJson => write_bytes(out, b"NotJson"),
-        ReadRefusal::BadShape(path) => write_detail(out, b"BadShape ", path),
-        ReadRefusal::Unsupported(field) => write_detail(out, b"Unsupported ", field),
-        ReadRefusal::BadName => write_bytes(out, b"BadName"),
-        ReadRefusal::BadLabel => write_bytes(out, b"BadLabel"),
-        ReadRefusal::BadSelector => write_bytes(out, b"BadSelector"),
-        ReadRefusal::BadAddr => write_bytes(out, b"BadAddr"),
-        ReadRefusal::BadPrefix => write_bytes(out, b"BadPrefix"),
-        ReadRefusal::BadPort => write_bytes(out, b"BadPort"),
-        ReadRefusal::BadPriority => write_bytes(out, b"BadPriority"),
-        ReadRefusal::BadAction => write_bytes(out, b"BadAction"),
-        ReadRefusal::BadControl => write_bytes(out, b"BadControl"),
-        ReadRefusal::NoMemory => Ok(()),
-    }
-}
-
-fn write_applying(out: &mut Text, refusal: &ClusterRefusal) -> Result<(), NoMemory>
-    ensures { OnOk result (out.new ≡ out.old ++ applying_text refusal.now) }
-{
-    match refusal {
-        ClusterRefusal::NodesFixed => write_bytes(out, b"NodesFixed"),
-        ClusterRefusal::CidrOverlap(node) => write_detail(out, b"CidrOverlap ", node),
-        ClusterRefusal::TierFixed => write_bytes(out, b"TierFixed"),
-        ClusterRefusal::TierTaken(tier) => write_detail(out, b"TierTaken ", tier),
-        ClusterRefusal::TierInUse(policy) => {
-            write_bytes(out, b"TierInUse ")?;
-            write_policy(out, policy)
+        LineOutcome::Held(node, revisions, judged) => {
+            write_held(out, node, *revisions)?;
+            write_bytes(out, b" ")?;
+            write_judged(out, judged)
         }
-        ClusterRefusal::NoSuchTier(tier) => write_detail(out, b"NoSuchTier ", tier),
-        ClusterRefusal::AddressInUse(pod) => {
-            write_bytes(out, b"AddressInUse ")?;
-            write_pod(out, pod)
-        }
-        ClusterRefusal::TooMany(limit) => write_counted(out, b"TooMany ", u64::from(*limit)),
-        ClusterRefusal::TooManyMarks(node) => write_detail(out, b"TooManyMarks ", node),
-        ClusterRefusal::NoMemory => Ok(()),
+        LineOutcome::Delivered(count) => write_counted(out, b"delivered ", *count),
+        LineOutcome::Cut => write_bytes(out, b"cut"),
+        LineOutcome::Rejoined(revision) => write_counted(out, b"rejoined ", *revision),
+        LineOutcome::Settled(revision) => write_counted(out, b"settled ", *revision),
     }
+}
+
+fn stream_name(stream: Stream) -> &'static [u8]
+    ensures { result.now ≡ stream_name stream }
+{
+    match stream {
+        Stream::Policies => b"policies",
+        Stream::Addresses => b"addresses",
+        Stream::Applied => b"applied",
+    }
+}
+
+fn write_cut(out: &mut Text, cut: &StreamOf) -> Result<(), NoMemory>
+    ensures { OnOk result (out.new ≡ out.old ++ cut_text (stream_told cut.now)) }
+{
+    write_bytes(out, b" ")?;
+    write_bytes(out, cut.node.as_slice())?;
+    write_bytes(out, b"/")?;
+    write_bytes(out, stream_name(cut.stream))
+}
+
+fn write_each_cut(out: &mut Text, cut: &[StreamOf]) -> Result<(), NoMemory>
+    ensures { OnOk result (out.new ≡ out.old ++ flat_map cut_text (map stream_told cut.now)) }
+{
+    for stream in cut {
+        write_cut(out, stream)?;
+    }
+    Ok(())
+}
+
+// The streams that were cut, where there are any.
+fn write_cuts(out: &mut Text, cut: &[StreamOf]) -> Result<(), NoMemory>
+    ensures { OnOk result (out.new ≡ out.old ++ cuts_text (map stream_told cut.now)) }
+{
+    if cut.is_empty() {
+        return Ok(());
+    }
+    write_bytes(out, b" cut")?;
+    write_each_cut(out, cut)
+}
+
+fn write_revisions(out: &mut Text, revisions: [Rev; 3]) -> Result<(), NoMemory>
+    ensures { OnOk result (out.new ≡ out.old ++ revisions_text (three revisions)) }
+{
+    let [policies, addresses, applied] = revisions;
+    write_number(out, policies.0)?;
+    write_counted(out, b"/", addresses.0)?;
+    write_counted(out, b"/", applied.0)
+}
+
+// The node, and the revisions of what its agent holds.
+fn write_held(out: &mut Text, node: &Text, revisions: [Rev; 3]) -> Result<(), NoMemory>
+    ensures { OnOk result (out.new ≡ out.old ++ (node.now ++ (codes " " ++ revisions_text (three revisions)))) }
+{
+    write_bytes(out, node.as_slice())?;
+    write_bytes(out, b" ")?;
+    write_revisions(out, revisions)
 }

@@ -5,32 +5,18 @@ ghost use Rattle.cl_io.specs.Reader.{Hands, KeepsLimit};
 ghost use Rattle.json_fields.specs.Answer.{Gives};
 ghost use Rattle.json_fields.specs.declared.refusal.ReadRefusal.{ReadRefusal};
 ghost use Rattle.policy_reader.specs.declared.item.LineItem.{LineItem};
-ghost use Rattle.suite_run.specs.World.{line_limit, item_of, item_read, item_of_line, item_of_control, built_objects, is_empty, has_references, built_policy, built};
+ghost use Rattle.suite_run.specs.World.{line_limit, item_of, item_read, item_of_line, item_of_control, item_of_order, built_objects, is_empty, has_references, built_policy, built};
 
 use cl_io::Line;
-use cl_types::{List, NoMemory, Question, Text};
-use cluster_objects::{Change, ClusterRefusal};
+use cl_types::{AgentOrder, List, NoMemory, Question, Stream, Text};
+use cluster_objects::Change;
 use cluster_types::{Object, RefItem, RefPolicy};
-use control_lines::Control;
+use control_lines::{Control, NodeOrder};
 use json_fields::ReadRefusal;
+use line_refusals::Refusal;
 use policy_reader::{LineItem, read_line};
 use std::alloc::Global;
 use std::mem;
-
-/// Why a line is refused.
-#[derive(Debug, Drop)]
-pub(crate) enum Refusal {
-    /// The line can't be read.
-    Reading(ReadRefusal),
-    /// The line is read, but nothing serves yet what it says.
-    NotBuilt,
-    /// The line has more bytes than a line may have: so many.
-    TooLong(u64),
-    /// One of its changes is refused.
-    Applying(ClusterRefusal),
-    /// The line names a node that isn't listed.
-    NoNode,
-}
 
 /// What a line says.
 #[derive(Debug, Drop)]
@@ -38,7 +24,31 @@ pub(crate) enum Item {
     Objects(List<Change>),
     /// An object of this kind isn't looked at.
     Ignored(Text),
-    Ask { node: Text, question: Question },
+    /// A question about the policies.
+    Ask {
+        node: Text,
+        question: Question,
+    },
+    /// A question about what a node's agent holds.
+    AskHeld {
+        node: Text,
+        question: Question,
+    },
+    /// Messages to be delivered: of one node or of all, of one stream or of all, at most so many of each or all.
+    Deliver {
+        node: Option<Text>,
+        stream: Option<Stream>,
+        count: Option<u32>,
+    },
+    Cut {
+        node: Text,
+        stream: Stream,
+    },
+    Rejoin {
+        node: Text,
+        stream: Stream,
+    },
+    Settle,
     Blank,
     Refused(Refusal),
 }
@@ -73,7 +83,7 @@ fn item_of_line(alloc: Global, item: LineItem) -> Result<Item, NoMemory>
         LineItem::Objects(items) => built_objects(alloc, items),
         LineItem::Ignored(kind) => Ok(Item::Ignored(kind)),
         LineItem::Control(control) => Ok(item_of_control(control)),
-        LineItem::Order(_) => Ok(Item::Refused(Refusal::NotBuilt)),
+        LineItem::Order(order) => Ok(item_of_order(order)),
         LineItem::Blank => Ok(Item::Blank),
     }
 }
@@ -82,7 +92,34 @@ fn item_of_control(control: Control) -> Item
     ensures { result ≡ item_of_control control }
 {
     match control {
+        Control::Deliver {
+            node,
+            stream,
+            count,
+        } => Item::Deliver {
+            node,
+            stream,
+            count,
+        },
+        Control::Cut { node, stream } => Item::Cut { node, stream },
+        Control::Rejoin { node, stream } => Item::Rejoin { node, stream },
+        Control::Settle => Item::Settle,
         Control::Ask { node, question } => Item::Ask { node, question },
+        _ => Item::Refused(Refusal::NotBuilt),
+    }
+}
+
+// Of what agents are told to do, questions are answered, where they needn't wait.
+fn item_of_order(order: NodeOrder) -> Item
+    ensures { result ≡ item_of_order order order.order }
+{
+    let NodeOrder {
+        node,
+        order,
+        settled,
+    } = order;
+    match order {
+        AgentOrder::Ask(question) if !settled => Item::AskHeld { node, question },
         _ => Item::Refused(Refusal::NotBuilt),
     }
 }

@@ -1,6 +1,5 @@
 //! What holds of all runs, whatever the code.
-ghost use Rattle.suite_run.specs.History.{RevisionsAreCounted, TheLastIsTheCluster, WorldsHaveClusters};
-ghost use Rattle.suite_run.specs.Laws.{RefusedLinesChangeNothing, RefusedLinesAreAsBlank};
+ghost use Rattle.suite_run.specs.Laws.{LinesLeadToSoundWorlds, RefusedLinesAreAsBlank, RefusedLinesChangeNothing};
 
 /// A refused line changes nothing but its own block.
 pub fn refused_lines_change_nothing()
@@ -8,16 +7,12 @@ pub fn refused_lines_change_nothing()
     ensures blocks { RefusedLinesAreAsBlank }
 {}
 
-/// The revisions of a run and their clusters, the last of which is the run's own.
-pub fn revisions_have_their_clusters()
-    ensures counted { RevisionsAreCounted }
-    ensures last { TheLastIsTheCluster }
-{}
-
-/// Whatever the lines are, the cluster of a run, and that of each of its revisions, has all that every cluster keeps.
-pub fn worlds_have_clusters()
-    ensures { WorldsHaveClusters }
+/// Whatever the lines, the world after them is sound: each map of an agent is what belongs on its stream at the map's
+/// revision, what waits leads on from there, and where the three revisions of a node are one, what its agent holds judges
+/// as the policies of that revision.
+pub fn lines_lead_to_sound_worlds()
+    ensures { LinesLeadToSoundWorlds }
 {
     policy_reader::what_is_read_is_whole();
-    cluster_objects::changes_keep_clusters();
+    run_machine::every_list_of_lines_leads_to_a_sound_world();
 }

@@ -2,7 +2,8 @@
 ghost use Rattle.std.specs.Prelude.{◌≡◌, ◌↔◌, ◌++◌, [], IsTrue, IfOk, OnOk};
 ghost use Rattle.cl_io.specs.Files.{FilesState};
 ghost use Rattle.cl_io.specs.Reader.{Stands, reading_of};
-ghost use Rattle.suite_run.specs.Blocks.{count_if, counts_text, ending, shows};
+ghost use Rattle.command_words.specs.Words.{HasRing, IsRing};
+ghost use Rattle.suite_run.specs.Blocks.{count_if, counts_text, ending, ring_of, shows};
 ghost use Rattle.suite_run.specs.Ends.{Concludes, Replayed};
 ghost use Rattle.suite_run.specs.Shown.{part_of};
 ghost use Rattle.suite_run.specs.World.{line_limit, input_limit};
@@ -25,11 +26,12 @@ pub(crate) fn replay<F: Files, O: Sink>(
     files: &mut F,
     out: &mut O,
 ) -> Status
+    requires ring { HasRing command.now }
     requires fresh { lines.old ≡ reading_of lines.old.names line_limit input_limit }
     requires stands { (base : FilesState) → Stands base [] lines.old base }
     ensures { Replayed command.now lines.old.names (F.state files.old) (O.state out.old) result lines.new (F.state files.new) (O.state out.new) }
 {
-    let Ok(mut world) = World::new(alloc) else {
+    let Ok(mut world) = World::new(alloc, ring_of(command)) else {
         return Status::NoMemory;
     };
     let mut refused = 0;
@@ -41,16 +43,28 @@ pub(crate) fn replay<F: Files, O: Sink>(
         if is_end(&line) {
             return conclude(alloc, command, number - 1, refused, out);
         }
-        let Ok(block) = take_line(alloc, &mut world, number, &line) else {
+        let Ok(taken) = take_line(alloc, world, number, &line) else {
             return Status::NoMemory;
         };
-        if put(out, part_of(command, &block)).is_err() {
+        if put(out, part_of(command, &taken.block)).is_err() {
             return Status::WriteFault;
         }
-        refused += count_if(block.refusal);
+        refused += count_if(taken.block.refusal);
+        world = taken.world;
     }
     // Each line uses up a byte of the input, which has a limit.
     unreachable!()
+}
+
+fn ring_of(command: &Command) -> u32
+    requires { HasRing command.now }
+    ensures ring { result ≡ ring_of command.now }
+    ensures range { IsRing result }
+{
+    match command {
+        Command::Check { .. } => 256,
+        Command::Replay { ring, .. } => *ring,
+    }
 }
 
 fn is_end(line: &Line) -> bool

@@ -6,6 +6,7 @@ use std::process::Abort;
 
 mod objects;
 mod rows;
+mod streams;
 
 // What a run over files and sinks in memory came to.
 #[derive(Drop)]

@@ -1,5 +1,6 @@
 //! The top call.
 ghost use Rattle.std.specs.Prelude.{IfOk, map, string_bytes};
+ghost use Rattle.command_words.specs.Words.{HasRing};
 ghost use Rattle.suite_run.specs.Run.{Causes, Complains, IsFinal, MeansNothing, Prints, Ran, Stays, Stops};
 ghost use Rattle.suite_run.specs.Words.{files_of, meant};
 
@@ -26,6 +27,7 @@ fn run<F: Files, O: Sink, E: Sink>(
     out: &mut O,
     err: &mut E,
 ) -> Status
+    requires { HasRing command.now }
     ensures ran { Ran command.now (files_of command.now) (F.state files.old) (O.state out.old) result (F.state files.new) (O.state out.new) }
     ensures complains { Complains (files_of command.now) (F.state files.old) (E.state err.old) result (F.state files.new) (E.state err.new) }
 {
@@ -42,6 +44,10 @@ fn run<F: Files, O: Sink, E: Sink>(
 /// Does what the words after the program's name say. `replay` writes the block of each line of its files. `check`
 /// writes the blocks of refused lines alone, and then how many lines there are and how many of them are refused. With
 /// every other status than these of the whole input the text stops where the clause `stops` says.
+///
+/// The blocks are read off the machine of `run_machine`. What holds of its world after any lines is the law
+/// `lines_lead_to_sound_worlds`; that a refused line is as a blank one is `refused_lines_change_nothing`; the laws of
+/// `run_machine` say the same of every list of events, and that every world settles.
 pub fn calm<F: Files, O: Sink, E: Sink>(
     alloc: Global,
     words: &Vec<String>,

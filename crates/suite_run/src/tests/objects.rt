@@ -148,7 +148,7 @@ const ROWS: &[Row] = &[
     (
         &[
             br#"{"type":"X-ATTACH","node":"n9","port":3,"address":"10.10.1.5"}"#,
-            br#"{"type":"X-SETTLE"}"#,
+            br#"{"type":"X-RESTART","node":"n1"}"#,
             br#"{"type":"X-ANTCTL","words":["get","networkpolicy"]}"#,
             br#"{"apiVersion":"crd.antrea.io/v1beta1","kind":"ClusterGroup","metadata":{"name":"g"},"spec":{"ipBlocks":[]}}"#,
             br#"{"type":"DELETED","object":{"apiVersion":"crd.antrea.io/v1beta1","kind":"ExternalIPPool","metadata":{"name":"p"}}}"#,

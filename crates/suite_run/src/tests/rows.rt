@@ -1,10 +1,10 @@
 use crate::tests::{NONE, replayed};
 use std::alloc::{AllocError, Global};
 
-const N1: &[u8] =
+pub(crate) const N1: &[u8] =
     br#"{"type":"ADDED","object":{"apiVersion":"v1","kind":"Node","metadata":{"name":"n1"},"spec":{"podCIDR":"10.10.1.0/24"}}}"#;
 
-const N2: &[u8] =
+pub(crate) const N2: &[u8] =
     br#"{"type":"ADDED","object":{"apiVersion":"v1","kind":"Node","metadata":{"name":"n2"},"spec":{"podCIDR":"10.10.2.0/24"}}}"#;
 
 const N3: &[u8] =
@@ -19,10 +19,10 @@ const N3_TOO_SHORT: &[u8] =
 pub(crate) const WEB: &[u8] =
     br#"{"apiVersion":"v1","kind":"Pod","metadata":{"namespace":"default","name":"web","labels":{"app":"web"}},"spec":{"nodeName":"n1"},"status":{"phase":"Running","podIP":"10.10.1.5"}}"#;
 
-const CLI: &[u8] =
+pub(crate) const CLI: &[u8] =
     br#"{"apiVersion":"v1","kind":"Pod","metadata":{"namespace":"default","name":"cli","labels":{"app":"cli"}},"spec":{"nodeName":"n1"},"status":{"phase":"Running","podIP":"10.10.1.6"}}"#;
 
-const DB: &[u8] =
+pub(crate) const DB: &[u8] =
     br#"{"apiVersion":"v1","kind":"Pod","metadata":{"namespace":"default","name":"db","labels":{"app":"db"}},"spec":{"nodeName":"n2"},"status":{"phase":"Running","podIP":"10.10.2.7"}}"#;
 
 const JOB_DONE: &[u8] =

@@ -6,20 +6,33 @@ use Rattle.cl_io.specs.ReaderLaws.{Kept-then}
 use Rattle.cl_io.specs.Sink.{Takes}
 use Rattle.suite_run.specs.declared.status.Status.{Status}
 use Rattle.suite_run.specs.Ends.{Replayed}
-use Rattle.suite_run.specs.Shown.{part_of, world_of}
+use Rattle.run_machine.specs.Machine.{first_world}
+use Rattle.suite_run.specs.Shown.{IsWorld, part_of}
 use Rattle.suite_run.specs.World.{line_limit}
 use Rattle.suite_run.proofs.Ending.{Leaving, rose_more, leaving, part_front, no_memory, write_fault, stands_within, line_fault, concluded, fault_named, replayed}
-use Rattle.suite_run.proofs.Running.{handed, telling, Running-none, Running-more, next_front, next_faultless, faultless_of, refused_few, all_taken, of_err}
+use Rattle.suite_run.proofs.Running.{handed, here, telling, Running-none, Running-more, next_front, next_faultless, faultless_of, refused_few, all_taken, of_err}
 use Rattle.suite_run.proofs.Wholes.{count_if-le}
+use Rattle.suite_run.proofs.Worlds.{number_of}
 use Rattle.suite_run.proofs.replay.replay.Goals as goal
 
 pub loop-number-init : goal.loop-number-init
-loop-number-init g c = Running-none _ _ _ _ c.args.lines.now (world_of c.in-Ok.world) c.requires.fresh c.requires.stands c.in-Ok.ensures
+loop-number-init g c = Running-none _ _ _ _ c.args.lines.now c.in-Ok.world c.requires.fresh c.requires.stands c.in-Ok.ensures.ready
+    (subst (λ places. IsWorld c.in-Ok.world (first_world places)) c.ring_of.ensures.ring c.in-Ok.ensures.first)
 
 pub take_line-requires : goal.take_line-requires
 take_line-requires g c =
+    let f0 = g.F.Files.state c.args.files.now in
     let run = c.loop-number.invariant in
-    omega (arith, run.revisions, run.used_up, run.stands.within, run.kept.task.input_limit)
+    let n = c.in-Ok-next.ensures in
+    let kept = Kept-then _ _ _ _ _ _ run.kept n.kept in
+    let some : c.in-Ok-next.line ≡ End → ⊥ = λ e. let t = c.is_end.ensures.1 e in let f = c.if-is_end.false in cc in
+    let more = n.goes_on f0 run.done run.stands in
+    let h = handed f0 run.done c.in-Ok-next.line c.next.new.self (g.F.Files.state c.next.new.files) some more.0 more.1 more.2 in
+    let number = number_of c.loop-number.world.ring c.loop-number.world.early (here c.args.command.now run.done) run.world_is in
+    record {
+      ready = run.ready;
+      revision = omega (arith, run.revisions, number, run.used_up, n.uses some, h.stands.within, kept.task.input_limit);
+    }
 
 pub unreachable-requires : goal.unreachable-requires
 unreachable-requires g c =
@@ -61,13 +74,13 @@ returns-then-is_err g c =
     let some : c.in-Ok-next.line ≡ End → ⊥ = λ e. let t = c.is_end.ensures.1 e in let f = c.if-is_end.false in cc in
     let more = n.goes_on f0 run.done run.stands in
     let h = handed f0 run.done c.in-Ok-next.line c.next.new.self f' some more.0 more.1 more.2 in
-    let follows = c.in-Ok-take_line.ensures h.bytes h.hands limit in
-    let text = part_of c.args.command.now c.in-Ok-take_line.block in
+    let follows = c.in-Ok-take_line.ensures h.bytes h.hands limit (here c.args.command.now run.done) run.world_is in
+    let text = part_of c.args.command.now c.in-Ok-take_line.taken.block in
     let T : List ℕ → Type 0 = λ z. Takes z c.put.result o o' in
     let takes = subst T c.part_of.ensures c.put.ensures.takes in
     let S : List ℕ → Type 0 = λ z. IsTrue o.steady → IfSome o.free (λ room. length z ≤ room → Succeeds c.put.result o.faults o'.faults) in
     let succeeds = subst S c.part_of.ensures c.put.ensures.succeeds in
-    let front = λ (t : IsSome f'.taken). next_front _ _ _ _ _ _ _ _ _ _ run c.next.new.self f' c.in-Ok-next.line h (world_of c.take_line.new.world) c.in-Ok-take_line.block follows kept (g.met.F.Files.truthful c.next.new.files) t in
+    let front = λ (t : IsSome f'.taken). next_front _ _ _ _ _ _ _ _ _ _ run c.next.new.self f' c.in-Ok-next.line h c.in-Ok-take_line.taken.world c.in-Ok-take_line.taken.block follows kept (g.met.F.Files.truthful c.next.new.files) t in
     let left : Leaving c.args.command.now c.args.lines.now.names f0 o0 f' o' = record {
       reading = c.next.new.self;
       kept = kept;
@@ -92,18 +105,18 @@ loop-number-preserved g c =
     let some : c.in-Ok-next.line ≡ End → ⊥ = λ e. let t = c.is_end.ensures.1 e in let f = c.if-is_end.false in cc in
     let more = n.goes_on f0 run.done run.stands in
     let h = handed f0 run.done c.in-Ok-next.line c.next.new.self f' some more.0 more.1 more.2 in
-    let follows = c.in-Ok-take_line.ensures h.bytes h.hands limit in
-    let text = part_of c.args.command.now c.in-Ok-take_line.block in
+    let follows = c.in-Ok-take_line.ensures h.bytes h.hands limit (here c.args.command.now run.done) run.world_is in
+    let text = part_of c.args.command.now c.in-Ok-take_line.taken.block in
     let T : List ℕ → Type 0 = λ z. Takes z c.put.result o o' in
     let takes = subst T c.part_of.ensures c.put.ensures.takes in
     let S : List ℕ → Type 0 = λ z. IsTrue o.steady → IfSome o.free (λ room. length z ≤ room → Succeeds c.put.result o.faults o'.faults) in
     let succeeds = subst S c.part_of.ensures c.put.ensures.succeeds in
     let w = all_taken text c.put.result o o' takes (search rules) in
-    Running-more _ _ _ _ _ _ _ _ _ _ run c.next.new.self f' c.in-Ok-next.line h (world_of c.take_line.new.world) c.in-Ok-take_line.block follows kept (g.met.F.Files.truthful c.next.new.files) o' _
+    Running-more _ _ _ _ _ _ _ _ _ _ run c.next.new.self f' c.in-Ok-next.line h c.in-Ok-take_line.taken.world c.in-Ok-take_line.taken.block follows kept (g.met.F.Files.truthful c.next.new.files) o' _
     (n.uses some) w.0 w.1 c.put.ensures.endures (λ s. faultless_of c.put.result o.free _ _ _ (succeeds s))
     (ap (λ z. c.loop-number.refused + z) c.count_if-refused.ensures)
 
 pub overflow_add-refused : goal.overflow_add-refused
 overflow_add-refused g c =
     let run = c.loop-number.invariant in
-    omega (arith, refused_few _ _ _ _ _ _ _ _ _ _ run, c.count_if-refused.ensures, count_if-le c.in-Ok-take_line.block.refusal, run.used_up, run.stands.within, run.kept.task.input_limit)
+    omega (arith, refused_few _ _ _ _ _ _ _ _ _ _ run, c.count_if-refused.ensures, count_if-le c.in-Ok-take_line.taken.block.refusal, run.used_up, run.stands.within, run.kept.task.input_limit)
