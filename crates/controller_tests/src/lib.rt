@@ -6,4 +6,6 @@ mod lines;
 #[cfg(test)]
 mod messages;
 #[cfg(test)]
+mod rejoins;
+#[cfg(test)]
 mod revisions;

@@ -96,3 +96,41 @@ pub(crate) fn take(
     assert!(rt; c.is_listed(node));
     c.take(node, stream)
 }
+
+/// Cuts a live stream.
+pub(crate) fn cut(
+    rt: &impl Abort,
+    c: &mut Controller<QueuePort>,
+    node: &Text,
+    stream: Stream,
+) -> bool {
+    assert!(rt; !c.is_spent());
+    assert!(rt; c.is_listed(node));
+    c.cut(node, stream)
+}
+
+/// Begins a stream again, and answers the revision, or 0 where it doesn't begin.
+pub(crate) fn rejoin(
+    rt: &impl Abort,
+    c: &mut Controller<QueuePort>,
+    node: &Text,
+    stream: Stream,
+) -> u64 {
+    assert!(rt; !c.is_spent());
+    assert!(rt; c.is_listed(node));
+    match c.rejoin(node, stream) {
+        Ok(rev) => rev.0,
+        Err(_) => 0,
+    }
+}
+
+/// All that belongs on a stream.
+pub(crate) fn snapshot(
+    rt: &impl Abort,
+    c: &Controller<QueuePort>,
+    node: &Text,
+    stream: Stream,
+) -> Msg {
+    assert!(rt; !c.is_spent());
+    c.snapshot(node, stream).expect(rt, "memory")
+}

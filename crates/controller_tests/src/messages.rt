@@ -1,9 +1,9 @@
 //! Messages as text.
-use cl_types::{NoMemory, Text, write_addr, write_bytes, write_number};
+use cl_types::{NoMemory, Text, write_addr, write_bytes, write_number, write_policy};
 use label_select::write_group;
 use std::alloc::Global;
 use std::process::Abort;
-use watch_streams::{HeldMember, Msg, StreamChange};
+use watch_streams::{HeldMember, Msg, StreamChange, StreamObject};
 
 fn write_members(out: &mut Text, word: &[u8], members: &[HeldMember]) -> Result<(), NoMemory> {
     for m in members {
@@ -37,6 +37,25 @@ fn write_changes(out: &mut Text, changes: &[StreamChange]) -> Result<(), NoMemor
     Ok(())
 }
 
+fn write_object(out: &mut Text, object: &StreamObject) -> Result<(), NoMemory> {
+    write_bytes(out, b" ")?;
+    match object {
+        StreamObject::Policy(policy) => write_policy(out, &policy.key),
+        StreamObject::Egress(egress) => write_bytes(out, egress.name.as_slice()),
+        StreamObject::Group { group, members } => {
+            write_group(out, group)?;
+            write_members(out, b" ", members.as_slice())
+        }
+    }
+}
+
+fn write_objects(out: &mut Text, objects: &[StreamObject]) -> Result<(), NoMemory> {
+    for object in objects {
+        write_object(out, object)?;
+    }
+    Ok(())
+}
+
 fn write_message(out: &mut Text, m: &Msg) -> Result<(), NoMemory> {
     match m {
         Msg::Delta(rev, changes) => {
@@ -44,14 +63,15 @@ fn write_message(out: &mut Text, m: &Msg) -> Result<(), NoMemory> {
             write_number(out, rev.0)?;
             write_changes(out, changes.as_slice())
         }
-        Msg::Snapshot(rev, _) => {
+        Msg::Snapshot(rev, objects) => {
             write_bytes(out, b"snapshot ")?;
-            write_number(out, rev.0)
+            write_number(out, rev.0)?;
+            write_objects(out, objects.as_slice())
         }
     }
 }
 
-/// `delta 5 patch default/[app in (cli)] +10.10.2.8`, or `none`.
+/// `delta 5 patch default/[app in (cli)] +10.10.2.8`, `snapshot 6 knp:default/web-in`, or `none`.
 pub(crate) fn shown(rt: &impl Abort, alloc: Global, m: Option<&Msg>) -> Text {
     let mut text = Text::new(alloc);
     match m {

@@ -15,8 +15,8 @@ const LINES: &[&[u8]] = &[
     br#"{"apiVersion":"networking.k8s.io/v1","kind":"NetworkPolicy","metadata":{"name":"web-in"},"spec":{"podSelector":{"matchLabels":{"app":"web"}},"policyTypes":["Ingress"],"ingress":[{"from":[{"podSelector":{"matchLabels":{"app":"cli"}}}],"ports":[{"protocol":"TCP","port":80}]}]}}"#,
 ];
 
-// A second client, on the other node.
-const CLIENT: &[u8] =
+/// A second client, on the other node.
+pub(crate) const CLIENT: &[u8] =
     br#"{"kind":"Pod","metadata":{"name":"cli2","labels":{"app":"cli"}},"spec":{"nodeName":"n2"},"status":{"podIP":"10.10.2.8"}}"#;
 
 // What each stream of each node is told of it.
@@ -41,14 +41,21 @@ fn revision(outcome: &Outcome) -> (u64, usize) {
     }
 }
 
-fn take_lines(rt: &impl Abort, alloc: Global, c: &mut Controller<QueuePort>) {
+/// Three pods and a policy.
+pub(crate) fn take_lines(rt: &impl Abort, alloc: Global, c: &mut Controller<QueuePort>) {
     for text in LINES {
         assert!(rt; revision(&line(rt, alloc, c, text)).1 == 0);
     }
 }
 
-// Takes the messages of the first four revisions from a stream.
-fn skip(rt: &impl Abort, alloc: Global, c: &mut Controller<QueuePort>, node: &[u8], s: Stream) {
+/// Takes the messages of the first four revisions from a stream.
+pub(crate) fn skip(
+    rt: &impl Abort,
+    alloc: Global,
+    c: &mut Controller<QueuePort>,
+    node: &[u8],
+    s: Stream,
+) {
     let node = name(rt, alloc, node);
     for _ in LINES {
         assert!(rt; take(rt, c, &node, s).is_some());

@@ -8,15 +8,15 @@ use Rattle.cluster_types.specs.declared.change.Change.{Change}
 use Rattle.cluster_types.specs.declared.change.Change.TheVariants.{Put, Remove}
 use Rattle.cluster_types.specs.declared.change.Object.TheVariants as object
 use Rattle.cluster_types.specs.declared.change.ObjectKey.TheVariants as key
-use Rattle.cluster_types.specs.Cluster.{ClusterData, IsCluster}
+use Rattle.cluster_types.specs.Cluster.{ClusterData, ClusterState, IsCluster}
 use Rattle.cluster_objects.specs.Apply.{Outcome, made, makes_difference}
-use Rattle.cluster_objects.specs.Changes.{Outcomes, after, and_then, apply, is_node, joined, unless}
+use Rattle.cluster_objects.specs.Changes.{Follows, Outcomes, after, and_then, apply, is_node, joined, unless}
 use Rattle.cluster_objects.specs.Laws.{FixedNodesStay, UnchangedLeavesTheCluster}
 use Rattle.ctl_core.specs.Line.{Came, ComesTo, LeavesNodes, came, came_to, one_came, other_differs}
 
 -- ---- one change
 
-unless_ok : (r : Option ClusterRefusal) (m o : Outcome) → unless r m ≡ Ok o → m ≡ o
+pub unless_ok : (r : Option ClusterRefusal) (m o : Outcome) → unless r m ≡ Ok o → m ≡ o
 unless_ok None m o e = cc
 unless_ok (Some refusal) m o e = cc
 
@@ -51,6 +51,25 @@ same_left fixed_law law c change o whole fixed e none = by_node (is_node change)
     by_node false is Changed at none = cc
     by_node false is Unchanged at none = law c change o whole e at ∙ ap (λ b. record c { fixed = b }) (stay.fixed ∙ sym fixed)
 
+-- a change that is refused, or for which memory is wanting, leaves the cluster alone
+pub left_alone : (r : Result Outcome ClusterRefusal) (old new : ClusterData) (refusal : ClusterRefusal) → Follows r old (Err refusal) new → new ≡ old
+left_alone r old new cluster.NoMemory f = f
+left_alone r old new cluster.NodesFixed f = f.1
+left_alone r old new (cluster.CidrOverlap x) f = f.1
+left_alone r old new cluster.TierFixed f = f.1
+left_alone r old new (cluster.TierTaken x) f = f.1
+left_alone r old new (cluster.TierInUse x) f = f.1
+left_alone r old new (cluster.NoSuchTier x) f = f.1
+left_alone r old new (cluster.AddressInUse x) f = f.1
+left_alone r old new (cluster.TooMany x) f = f.1
+left_alone r old new (cluster.TooManyMarks x) f = f.1
+
+pub nodes_alone : (c new : ClusterData) → c.fixed ≡ true → new ≡ c → LeavesNodes c new
+nodes_alone c new fixed same = record { nodes = ap (λ (d : ClusterData). d.nodes) same; fixed = ap (λ (d : ClusterData). d.fixed) same ∙ fixed }
+
+pub nodes_with : (c : ClusterData) (mid new : ClusterState) → new ≡ mid → LeavesNodes c mid.cluster → LeavesNodes c new.cluster
+nodes_with c mid new same left = subst (λ (s : ClusterState). LeavesNodes c s.cluster) (sym same) left
+
 -- ---- a list of changes
 
 -- what later changes come to, and whether these or the earlier ones made a difference
@@ -67,11 +86,11 @@ joined_came : (differs : Bool) (change : Change) (applied : Applied) (r : Result
 joined_came differs change applied (Ok o) = ap (λ z. Ok (came_to o.cluster z)) (or_assoc differs (other_differs change applied) o.other_changed)
 joined_came differs change applied (Err refusal) = refl
 
-abbrev cluster_in : ClusterData → Result Came ClusterRefusal → ClusterData
+abbrev pub cluster_in : ClusterData → Result Came ClusterRefusal → ClusterData
 cluster_in c (Ok x) = x.cluster
 cluster_in c (Err refusal) = c
 
-abbrev differs_in : Result Came ClusterRefusal → Bool
+abbrev pub differs_in : Result Came ClusterRefusal → Bool
 differs_in (Ok x) = x.differs
 differs_in (Err refusal) = false
 

@@ -18,7 +18,7 @@ use Rattle.cluster_types.specs.Egress.{EgressData}
 use Rattle.cluster_types.specs.Policy.{PolicyData}
 use Rattle.group_index.specs.Index.{EntryData, StandsFor, at_group, entry_of, entry_text, first_use, more_use, with_use}
 use Rattle.watch_streams.specs.Projection.{policy_groups}
-use Rattle.ctl_core.specs.Naming.{AreGroups, TakesIntoUse, counting_group, groups_named, named_groups}
+use Rattle.ctl_core.specs.Naming.{AreGroups, counting_group, groups_named, named_groups}
 use Rattle.ctl_core.specs.Sides.{IsInUse, IsSide, NamesInUse}
 
 abbrev pub TextsDiffer : Type 0
@@ -27,58 +27,13 @@ TextsDiffer = (a b : Group) → IsGroup a → IsGroup b → group_text a ≡ gro
 -- ---- one group
 
 -- a group whose text has an entry is in use
-pub used_already : TextsDiffer → (c : ClusterData) (g : Group) → IsGroup g → (index : List EntryData) → StandsFor index c → AreGroups index → IsSome (entry_of index g) → TakesIntoUse c g index index
-used_already differ c g form index stands groups some = record { stands = stands; groups = groups; used = by_entry (entry_of index g) refl some; keeps = λ h used. used }
+pub is_used : TextsDiffer → (g : Group) → IsGroup g → (index : List EntryData) → AreGroups index → IsSome (entry_of index g) → IsInUse index g
+is_used differ g form index groups some = by_entry (entry_of index g) refl some
   where
     by_entry : (o : Option EntryData) → entry_of index g ≡ o → IsSome o → option_map (λ (e : EntryData). e.group) o ≡ Some g
     by_entry None is there = cc
     by_entry (Some e) is there =
         ap Some (differ e.group g (found_holds (at_group g) (λ (x : EntryData). IsGroup x.group) index e groups is) form (text_order_exact (group_text e.group) (group_text g) (found_at (at_group g) index e is)))
-
-module _ (c : ClusterData) (g : Group) (index : List EntryData) (none : entry_of index g ≡ None) where
-  put_first : with_use c g index ≡ put (at_group g) (first_use c g) index
-  unfolding with_use
-  put_first = ap (λ o. put (at_group g) (more_use c g o) index) none
-
-  entry_after : (h : Group) → entry_of (with_use c g index) h ≡ (if is_eq (text_order (group_text g) (group_text h)) then Some (first_use c g) else entry_of index h)
-  entry_after h = ap (λ xs. entry_of xs h) put_first ∙ found_put entry_text text_order_total (group_text h) (first_use c g) index
-
-  used_now : IsInUse (with_use c g index) g
-  used_now =
-      ap (option_map (λ (e : EntryData). e.group))
-      (entry_after g ∙ ap (λ r. if is_eq r then Some (first_use c g) else entry_of index g) (tied_itself text_order_total (group_text g)))
-
-  kept_in_use : (h : Group) → IsInUse index h → IsInUse (with_use c g index) h
-  kept_in_use h used = by_order (text_order (group_text g) (group_text h)) refl
-    where
-      same_entry : group_text g ≡ group_text h → entry_of index h ≡ None
-      same_entry e = ap (λ t. found (λ (x : EntryData). text_order (entry_text x) t) index) (sym e) ∙ none
-
-      to : (o : Option EntryData) → Type 0
-      to o = option_map (λ (e : EntryData). e.group) o ≡ Some h
-
-      by_order : (r : Ordering) → text_order (group_text g) (group_text h) ≡ r → IsInUse (with_use c g index) h
-      by_order Less is = ap (option_map (λ (e : EntryData). e.group)) (entry_after h ∙ ap (λ r. if is_eq r then Some (first_use c g) else entry_of index h) is) ∙ used
-      by_order Equal is =
-          let nothing : None ≡ Some h = ap (option_map (λ (e : EntryData). e.group)) (sym (same_entry (text_order_exact (group_text g) (group_text h) is))) ∙ used in
-          cc
-      by_order Greater is = ap (option_map (λ (e : EntryData). e.group)) (entry_after h ∙ ap (λ r. if is_eq r then Some (first_use c g) else entry_of index h) is) ∙ used
-
-  pub used_first : IsGroup g → StandsFor (with_use c g index) c → AreGroups index → TakesIntoUse c g index (with_use c g index)
-  used_first form stands groups = record {
-    stands = stands;
-    groups = subst AreGroups (sym put_first) (all_put (at_group g) (λ (e : EntryData). IsGroup e.group) (first_use c g) index form groups);
-    used = used_now;
-    keeps = kept_in_use;
-  }
-
-not_there : {T : Type 0} (o : Option T) → is_some o ≡ false → o ≡ None
-not_there None none = refl
-not_there (Some x) none = cc
-
-pub used_after : (c : ClusterData) (g : Group) → IsGroup g → (index new : List EntryData) → is_some (entry_of index g) ≡ false → new ≡ with_use c g index → StandsFor new c → AreGroups index → TakesIntoUse c g index new
-used_after c g form index new none is stands groups =
-    subst (TakesIntoUse c g index) (sym is) (used_first c g index (not_there (entry_of index g) none) form (subst (λ (es : List EntryData). StandsFor es c) is stands) groups)
 
 -- ---- all that are named
 
@@ -105,8 +60,3 @@ all_named c groups stands used = record {
 
     of_egress : (e : EgressData) → AllByRecursion (IsInUse groups) (counting_group c e) → egress_counts c e ≡ true → IsInUse groups e.applied
     of_egress e all counts = let one : AllByRecursion (IsInUse groups) (e.applied ∷ []) = subst (λ b. AllByRecursion (IsInUse groups) (cond b (e.applied ∷ []) [])) counts all in one.0
-
--- the first groups and one more
-pub used_more : (old new : List EntryData) (xs : List Group) (g : Group) → ((h : Group) → IsInUse old h → IsInUse new h) → IsInUse new g → AllByRecursion (IsInUse old) xs → AllByRecursion (IsInUse new) (xs ++ g ∷ [])
-used_more old new [] g keeps used all = (used, tt)
-used_more old new (x ∷ xs) g keeps used all = (keeps x all.0, used_more old new xs g keeps used all.1)

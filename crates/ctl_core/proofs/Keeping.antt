@@ -14,10 +14,11 @@ use Rattle.stream_messages.specs.Laws.{CutStreamsStay, DeltasGoOn, last_cluster}
 use Rattle.stream_messages.specs.Messages.{delta}
 use Rattle.watch_streams.specs.Ports.{PortState}
 use Rattle.watch_streams.specs.Stream.{IsStream}
-use Rattle.ctl_core.specs.declared.telling.NodeMessages.{NodeMessages}
+use Rattle.node_streams.specs.declared.messages.NodeMessages.{NodeMessages}
 use Rattle.ctl_core.specs.Laws.{HoldsStream, LinesKeepStreams}
-use Rattle.ctl_core.specs.Streams.{NodeStreams, StreamData, at_node, stream_of, streams_at}
-use Rattle.ctl_core.specs.Telling.{AreTold, IsTold, NodeIsTold, cuts_of, messages_of}
+use Rattle.node_streams.specs.Streams.{NodeStreams, StreamData, at_node, stream_of, streams_at}
+use Rattle.ctl_core.specs.Telling.{messages_of}
+use Rattle.node_streams.specs.Telling.{AreTold, IsTold, NodeIsTold, cuts_of}
 
 -- where all nodes were told, each of them was
 told_at : {P : Type 0} (state : P → PortState) (Same : P → P → Type 0) (messages : NodeStreams P → NodeMessages) (node : List ℕ) (olds news : List (NodeStreams P)) (old new : NodeStreams P)

@@ -1,10 +1,14 @@
 mod Beginning
+mod Changing
 mod Coming
 mod Concerns
-mod Edits
+mod Counted
+mod Counting
 mod InUse
-mod Keeping
 mod Indexes
+mod Keeping
+mod Leading
 mod OneKept
 mod Revising
 mod SoFar
+mod TakingBack

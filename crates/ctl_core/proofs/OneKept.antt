@@ -19,8 +19,8 @@ use Rattle.watch_streams.specs.Stream.{IsStream}
 use Rattle.ctl_core.specs.declared.outcome.RejoinFault.TheVariants.{NotCut, Full, NoMemory}
 use Rattle.ctl_core.specs.Controller.{ControllerData}
 use Rattle.ctl_core.specs.Laws.{CutsKeepStreams, HoldsStream, RejoinsKeepStreams, TakesKeepStreams, from_then}
-use Rattle.ctl_core.specs.Streams.{ChangesOne, IsBegunAgain, IsCut, IsFull, NodeStreams, StreamData, at_node, stream_of, streams_at, with_stream}
-use Rattle.ctl_core.proofs.Edits.{name, same_name}
+use Rattle.node_streams.specs.Streams.{ChangesOne, IsBegunAgain, IsCut, IsFull, NodeStreams, StreamData, at_node, stream_of, streams_at, with_stream}
+use Rattle.node_streams.specs.StreamLaws.{name, same_name}
 
 module _ {P : Type 0} (Q : StreamData P → StreamData P → Type 0) (same : (x : StreamData P) → Q x x) where
   -- of a node one stream changed

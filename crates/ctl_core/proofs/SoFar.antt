@@ -7,10 +7,11 @@ use Rattle.cluster_types.specs.Cluster.{ClusterData}
 use Rattle.watch_streams.specs.Ports.{PortState}
 use Rattle.watch_streams.specs.declared.message.Msg.{Msg}
 use Rattle.ctl_core.specs.declared.outcome.StreamOf.{StreamOf}
-use Rattle.ctl_core.specs.declared.telling.NodeMessages.{NodeMessages}
+use Rattle.node_streams.specs.declared.messages.NodeMessages.{NodeMessages}
 use Rattle.ctl_core.specs.declared.telling.Turn.{Turn}
-use Rattle.ctl_core.specs.Streams.{NodeStreams}
-use Rattle.ctl_core.specs.Telling.{AreTold, NodeIsTold, TellsTheLive, cuts_of, listed_cuts, messages_of, names_of, streams_cut, turn_of}
+use Rattle.node_streams.specs.Streams.{NodeStreams}
+use Rattle.ctl_core.specs.Telling.{listed_cuts, messages_of, names_of, streams_cut, turn_of}
+use Rattle.node_streams.specs.Telling.{AreTold, NodeIsTold, TellsTheLive, cuts_of}
 
 -- ---- one more node
 

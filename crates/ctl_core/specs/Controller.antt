@@ -8,12 +8,13 @@ use Rattle.cluster_types.specs.Cluster.{ClusterData, IsCluster}
 use Rattle.cluster_types.specs.Node.{NodeData}
 use Rattle.group_index.specs.Index.{EntryData}
 use Rattle.ctl_core.specs.Sides.{IsSide}
+use Rattle.ctl_core.specs.Uses.{IsCounted}
 use Rattle.watch_streams.specs.Ports.{PortState}
-use Rattle.ctl_core.specs.declared.outcome.Trio.{Trio}
+use Rattle.node_streams.specs.declared.messages.Trio.{Trio}
 use Rattle.ctl_core.specs.declared.outcome.RejoinFault.{RejoinFault}
 use Rattle.ctl_core.specs.declared.outcome.RejoinFault.TheVariants.{NotCut, Full, NoMemory}
 use Rattle.stream_messages.specs.Messages.{snapshot}
-use Rattle.ctl_core.specs.Streams.{NodeStreams, StreamData, ChangesOne, IsBegunAgain, IsFull, first_streams, stream_of, streams_at}
+use Rattle.node_streams.specs.Streams.{NodeStreams, StreamData, ChangesOne, IsBegunAgain, IsFull, first_streams, stream_of, streams_at}
 
 pub record ControllerData (P : Type 0) : Type 0 where
   pub cluster : ClusterData
@@ -33,6 +34,14 @@ pub record IsController {P : Type 0} (c : ControllerData P) : Type 0 where
   pub nodes : map (λ (n : NodeStreams P). n.node) c.nodes ≡ map (λ (n : NodeData). n.name) c.cluster.nodes
   pub ascend : Ascends (λ (n : NodeStreams P). n.node) text_order c.nodes
   pub groups : c.spent ≡ false → IsSide c.cluster c.groups
+
+-- A controller has its cluster twice, each time with the groups in use. Until it is spent the two are the same, and each
+-- counts how often a group is named.
+pub record KeepsSides {P : Type 0} (c : ControllerData P) (other : ClusterData) (others : List EntryData) : Type 0 where
+  pub controller : IsController c
+  pub same : c.spent ≡ false → other ≡ c.cluster
+  pub present : c.spent ≡ false → IsCounted c.cluster c.groups
+  pub next : c.spent ≡ false → IsCounted other others
 
 -- the nodes as they stand, at revision 0, with no group in use
 pub record IsNew {P : Type 0} (given : ClusterData) (ports : List (Trio P)) (c : ControllerData P) : Type 0 where

@@ -13,7 +13,7 @@ use Rattle.ctl_core.specs.declared.outcome.StreamOf.{StreamOf}
 use Rattle.ctl_core.specs.declared.outcome.RejoinFault.{RejoinFault}
 use Rattle.ctl_core.specs.Controller.{ChangesOneStream, ControllerData, Rejoins}
 use Rattle.ctl_core.specs.Line.{MakesRevision}
-use Rattle.ctl_core.specs.Streams.{IsCut, NodeStreams, StreamData, TakesFrom, stream_of, streams_at}
+use Rattle.node_streams.specs.Streams.{IsCut, NodeStreams, StreamData, TakesFrom, stream_of, streams_at}
 
 -- the history of clusters leads to the controller's revision
 pub record Reaches {P : Type 0} (history : List ClusterData) (c : ControllerData P) : Type 0 where

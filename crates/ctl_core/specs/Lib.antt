@@ -1,8 +1,10 @@
 pub mod Controller
+pub mod Following
 pub mod Indexed
 pub mod Laws
 pub mod Line
 pub mod Naming
 pub mod Sides
-pub mod Streams
 pub mod Telling
+pub mod Trying
+pub mod Uses

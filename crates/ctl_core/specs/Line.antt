@@ -13,7 +13,8 @@ use Rattle.ctl_core.specs.declared.outcome.StreamOf.{StreamOf}
 use Rattle.ctl_core.specs.declared.outcome.Outcome as outcome
 use Rattle.ctl_core.specs.declared.outcome.Outcome.TheVariants.{Revision, Unchanged}
 use Rattle.ctl_core.specs.Controller.{ControllerData}
-use Rattle.ctl_core.specs.Telling.{AreTold, messages_of, streams_cut}
+use Rattle.ctl_core.specs.Telling.{messages_of, streams_cut}
+use Rattle.node_streams.specs.Telling.{AreTold}
 
 -- ---- changes of a cluster whose nodes are fixed
 

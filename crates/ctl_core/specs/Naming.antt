@@ -6,9 +6,8 @@ use Rattle.cluster_types.specs.Choice.{egress_counts}
 use Rattle.cluster_types.specs.Cluster.{ClusterData}
 use Rattle.cluster_types.specs.Egress.{EgressData}
 use Rattle.cluster_types.specs.Policy.{PolicyData}
-use Rattle.group_index.specs.Index.{EntryData, StandsFor}
+use Rattle.group_index.specs.Index.{EntryData}
 use Rattle.watch_streams.specs.Projection.{policy_groups}
-use Rattle.ctl_core.specs.Sides.{IsInUse}
 
 -- the groups to which the policy applies, and those of its peers
 abbrev pub groups_named : PolicyData → List Group
@@ -22,14 +21,7 @@ counting_group c e = cond (egress_counts c e) (e.applied ∷ []) []
 abbrev pub named_groups : ClusterData → List Group
 named_groups c = flat_map groups_named c.policies ++ flat_map (counting_group c) c.egresses
 
--- ---- groups that come into use
+-- ---- groups in use
 
 abbrev pub AreGroups : List EntryData → Type 0
 AreGroups index = AllByRecursion (λ (e : EntryData). IsGroup e.group) index
-
--- the group is in use with its members at the cluster, and so is every other one that was
-pub record TakesIntoUse (c : ClusterData) (g : Group) (old new : List EntryData) : Type 0 where
-  pub stands : StandsFor new c
-  pub groups : AreGroups new
-  pub used : IsInUse new g
-  pub keeps : (h : Group) → IsInUse old h → IsInUse new h

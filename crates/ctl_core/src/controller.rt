@@ -1,21 +1,23 @@
-ghost use Rattle.std.specs.Prelude.{◌≡◌, ◌<◌, ◌^◌, IfOk, IsSome, OnErr, Some, false, is_some, length, option_map};
+ghost use Rattle.std.specs.Prelude.{◌≡◌, ◌<◌, ◌^◌, IfOk, IsSome, OnErr, OnOk, Some, false, is_some, length, option_map};
 ghost use Rattle.cluster_types.specs.Cluster.{HasNodesAlone};
-ghost use Rattle.ctl_core.specs.Sides.{IsSide};
+ghost use Rattle.ctl_core.specs.Trying.{Leads};
 ghost use Rattle.ctl_core.specs.Controller.{ChangesOneStream, IsController, IsNew, IsUnspent, Rejoins, live_at};
-ghost use Rattle.ctl_core.specs.Line.{IsRevised, LeavesNodes, TakesLine};
+ghost use Rattle.ctl_core.specs.Line.{IsRevised, IsSpent, TakesLine};
 ghost use Rattle.stream_messages.specs.Messages.{snapshot};
-ghost use Rattle.ctl_core.specs.Streams.{Begins, IsCut, TakesFrom, stream_of, streams_at};
+ghost use Rattle.node_streams.specs.Streams.{Begins, IsCut, TakesFrom, stream_of, streams_at};
 
 use crate::applying::apply_all;
-use crate::indexing::index_of;
 use crate::objects::objects_on;
-use crate::outcome::{Outcome, RejoinFault, Trio};
+use crate::outcome::{Outcome, RejoinFault};
 use crate::side::Side;
-use crate::streams::{NodePorts, begin_at, cut_at, first_streams, is_listed, streams_at, take_at};
+use crate::trying::foretold;
 use crate::turns::tell_all;
 use cl_types::{List, NoMemory, Rev, Stream, Text};
 use cluster_objects::{Change, Cluster, ClusterRefusal};
 use group_index::GroupIndex;
+use node_streams::{
+    NodePorts, Trio, begin_at, cut_at, first_streams, is_listed, streams_at, take_at,
+};
 use std::alloc::Global;
 use std::marker::Model;
 use watch_streams::{Msg, Port, QueuePort};
@@ -23,20 +25,23 @@ use watch_streams::{Msg, Port, QueuePort};
 /// The cluster of the last revision, the groups in use, and the streams of each node.
 #[derive(Drop)]
 pub struct Controller<P: Port> {
-    side: Side,
+    // The cluster stands twice, with its groups each time: a line is tried and taken on the next side, while the present
+    // one is still the last revision's, and then on that.
+    present: Side,
+    next: Side,
     revision: Rev,
     spent: bool,
     nodes: Vec<NodePorts<P>>,
 }
 
 impl<P: Port> Model for Controller<P> {
-    ghost use Rattle.ctl_core.specs.Controller.{ControllerData, IsController};
+    ghost use Rattle.ctl_core.specs.Controller.{ControllerData, KeepsSides};
 
     ghost Value = { ControllerData P };
 
-    ghost view = { λ c. record { cluster = c.side.cluster.cluster; groups = c.side.groups; revision = c.revision; spent = c.spent; nodes = c.nodes.items } };
+    ghost view = { λ c. record { cluster = c.present.cluster.cluster; groups = c.present.groups; revision = c.revision; spent = c.spent; nodes = c.nodes.items } };
 
-    ghost invariant = { λ c. IsController {P = P} (record { cluster = c.side.cluster.cluster; groups = c.side.groups; revision = c.revision; spent = c.spent; nodes = c.nodes.items }) };
+    ghost invariant = { λ c. KeepsSides {P = P} (record { cluster = c.present.cluster.cluster; groups = c.present.groups; revision = c.revision; spent = c.spent; nodes = c.nodes.items }) c.next.cluster.cluster c.next.groups };
 }
 
 impl<P: Port + Drop> Controller<P> {
@@ -54,9 +59,14 @@ impl<P: Port + Drop> Controller<P> {
         cluster.fix_nodes();
         cluster.keeps_its_form();
         let nodes = first_streams(alloc, cluster.nodes(), ports)?;
+        let next = Side {
+            cluster: cluster.copy()?,
+            groups: GroupIndex::new(alloc)?,
+        };
         let groups = GroupIndex::new(alloc)?;
         Ok(Controller {
-            side: Side { cluster, groups },
+            present: Side { cluster, groups },
+            next,
             revision: Rev(0),
             spent: false,
             nodes,
@@ -81,14 +91,14 @@ impl<P: Port + Drop> Controller<P> {
     pub fn cluster(&self) -> &Cluster
         ensures { result.now.cluster ≡ self.now.cluster }
     {
-        &self.side.cluster
+        &self.present.cluster
     }
 
     /// The groups in use.
     pub fn groups(&self) -> &GroupIndex
         ensures { result.now ≡ self.now.groups }
     {
-        &self.side.groups
+        &self.present.groups
     }
 
     /// Whether it ran out of memory in the middle of a line. Nothing else spends it.
@@ -142,29 +152,39 @@ impl<P: Port + Drop> Controller<P> {
         ensures { TakesLine P.state P.same changes result self.old self.new }
     {
         let alloc = *self.nodes.allocator();
-        let mut cluster = self.side.cluster.copy()?;
-        if !apply_all(&mut cluster, changes.as_slice())? {
+        if !foretold(alloc, &mut self.next.cluster, changes.as_slice())? {
             return Ok(Outcome::Unchanged);
         }
-        let groups = index_of(alloc, &cluster)?;
-        Ok(self.revise(Side { cluster, groups })?)
+        Ok(self.revise(changes.as_slice())?)
     }
 
-    // Makes the next revision, at which the side is the new one.
-    fn revise(&mut self, new: Side) -> Result<Outcome, NoMemory>
+    // Makes the next revision of changes of which none is refused. Until all of it is made the controller is spent.
+    fn revise(&mut self, changes: &[Change]) -> Result<Outcome, NoMemory>
         requires unspent { IsUnspent self.old }
         requires revision { self.old.revision.0 < 2 ^ 32 }
-        requires side { IsSide new.cluster.cluster new.groups }
-        requires nodes { LeavesNodes self.old.cluster new.cluster.cluster }
-        ensures revised { IfOk result (IsRevised P.state P.same new.cluster.cluster self.old self.new) }
-        ensures err { OnErr result (self.new ≡ self.old) }
+        ensures revised { IfOk result (IsRevised P.state P.same self.new.cluster self.old self.new) }
+        ensures leads { OnOk result (Leads changes.now self.old.cluster self.new.cluster) }
+        ensures err { OnErr result (IsSpent self.old self.new) }
     {
         let alloc = *self.nodes.allocator();
-        new.cluster.keeps_its_form();
+        self.spent = true;
+        apply_all(alloc, &mut self.next, changes)?;
         let rev = Rev(self.revision.0 + 1);
-        let cut = tell_all(alloc, &self.side, &new, rev, &mut self.nodes)?;
-        self.side = new;
+        let Ok(cut) = tell_all(
+            alloc,
+            &mut self.present,
+            &self.next,
+            changes,
+            rev,
+            &mut self.nodes,
+        ) else {
+            self.present.cluster.keeps_its_form();
+            return Err(NoMemory);
+        };
+        self.present.cluster.keeps_its_form();
+        self.present.has_all_in_use();
         self.revision = rev;
+        self.spent = false;
         Ok(Outcome::Revision {
             rev,
             cut: List::of(cut),
@@ -177,7 +197,7 @@ impl<P: Port + Drop> Controller<P> {
         ensures { IfOk result (λ m. m ≡ snapshot self.now.cluster self.now.revision stream node.now) }
     {
         let alloc = *self.nodes.allocator();
-        let Side { cluster, groups } = &self.side;
+        let Side { cluster, groups } = &self.present;
         let objects = objects_on(alloc, cluster, groups, stream, node)?;
         Ok(Msg::Snapshot(self.revision, objects))
     }

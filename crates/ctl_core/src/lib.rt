@@ -3,17 +3,19 @@
 
 mod applying;
 mod controller;
-mod indexing;
+mod following;
 mod laws;
 mod members;
+mod naming;
 mod objects;
 mod outcome;
 mod side;
 mod spans;
-mod streams;
 mod telling;
+mod trying;
 mod turns;
 
 pub use controller::Controller;
 pub use laws::{cuts_and_rejoins_keep_streams, lines_keep_streams, takes_keep_streams};
-pub use outcome::{Outcome, RejoinFault, StreamOf, Trio};
+pub use node_streams::Trio;
+pub use outcome::{Outcome, RejoinFault, StreamOf};

@@ -3,14 +3,6 @@ ghost use Rattle.ctl_core.specs.declared.outcome.RejoinFault.TheVariants.{NoMemo
 
 use cl_types::{List, Rev, Stream, Text};
 
-/// A port for each stream of a node.
-#[derive(Drop)]
-pub struct Trio<P> {
-    pub policies: P,
-    pub addresses: P,
-    pub applied: P,
-}
-
 /// A stream of a node.
 #[derive(Debug, Drop)]
 pub struct StreamOf {

@@ -7,27 +7,11 @@ ghost use Rattle.ctl_core.specs.Telling.{messages_of, named_stream, names_of, tu
 use crate::objects::objects_on;
 use crate::outcome::StreamOf;
 use crate::side::Side;
-use crate::streams::NodePorts;
 use cl_types::{Copies, NoMemory, Rev, Stream, Text};
+use node_streams::{NodeMessages, NodePorts};
 use std::alloc::Global;
 use stream_messages::changes_between;
 use watch_streams::{Msg, Port};
-
-/// What the live streams of a node are told.
-#[derive(Drop)]
-pub(crate) struct NodeMessages {
-    pub(crate) policies: Option<Msg>,
-    pub(crate) addresses: Option<Msg>,
-    pub(crate) applied: Option<Msg>,
-}
-
-/// Which streams of a node were cut.
-#[derive(Clone, Copy, Debug, PartialEq, Eq)]
-pub(crate) struct NodeCuts {
-    pub(crate) policies: bool,
-    pub(crate) addresses: bool,
-    pub(crate) applied: bool,
-}
 
 /// The streams of a node, by name.
 #[derive(Debug, Drop)]

@@ -1,14 +1,19 @@
 //! The nodes are told what changed, one after another.
-ghost use Rattle.std.specs.Prelude.{◌≡◌, ◌≤◌, ◌<◌, ◌+◌, ◌++◌, ◌∷◌, [], cond, length, vec_len, vec_capacity, IfOk, OnErr};
+ghost use Rattle.std.specs.Prelude.{◌≡◌, ◌≤◌, ◌<◌, ◌+◌, ◌++◌, ◌∷◌, [], cond, length, vec_len, vec_capacity, IfOk, OnErr, OnOk, true};
 ghost use Rattle.cluster_types.specs.Limits.{max_nodes};
-ghost use Rattle.ctl_core.specs.Sides.{IsSide};
-ghost use Rattle.ctl_core.specs.Telling.{AreTold, NodeIsTold, TellsTheLive, cuts_of, listed_cuts, messages_of, streams_cut};
+ghost use Rattle.ctl_core.specs.Line.{LeavesNodes};
+ghost use Rattle.ctl_core.specs.Telling.{listed_cuts, messages_of, streams_cut};
+ghost use Rattle.ctl_core.specs.Trying.{Leads};
+ghost use Rattle.ctl_core.specs.Uses.{IsCounted};
+ghost use Rattle.node_streams.specs.Telling.{AreTold, NodeIsTold, TellsTheLive, cuts_of};
 
+use crate::applying::apply_all;
 use crate::outcome::StreamOf;
 use crate::side::Side;
-use crate::streams::NodePorts;
-use crate::telling::{NodeCuts, NodeNames, Turn, all_turns};
+use crate::telling::{NodeNames, Turn, all_turns};
 use cl_types::{NoMemory, Rev};
+use cluster_objects::Change;
+use node_streams::{NodeCuts, NodePorts};
 use std::alloc::Global;
 use watch_streams::Port;
 
@@ -53,24 +58,33 @@ fn tell_one<P: Port + Drop>(n: &mut NodePorts<P>, turn: Turn, listed: &mut Vec<S
     push_cuts(listed, cuts, turn.names);
 }
 
-/// Tells each live stream what changed on it at the revision that leads from the old side to the new one, and lists the
-/// streams that were cut. All messages are made before the first one is offered.
+/// Tells each live stream what changed on it at the revision that leads from the present side to the next one, and lists
+/// the streams that were cut. The present side takes the changes too. All that needs memory is done before the first
+/// message is offered.
 pub(crate) fn tell_all<P: Port + Drop>(
     alloc: Global,
-    old: &Side,
-    new: &Side,
+    present: &mut Side,
+    next: &Side,
+    changes: &[Change],
     rev: Rev,
     nodes: &mut Vec<NodePorts<P>>,
 ) -> Result<Vec<StreamOf>, NoMemory>
-    requires old { IsSide old.now.cluster.cluster old.now.groups }
-    requires new { IsSide new.now.cluster.cluster new.now.groups }
+    requires fixed { present.old.cluster.cluster.fixed ≡ true }
+    requires present { IsCounted present.old.cluster.cluster present.old.groups }
+    requires next { IsCounted next.now.cluster.cluster next.now.groups }
     requires few { length nodes.old.items ≤ max_nodes }
-    ensures told { IfOk result (λ _. AreTold P.state P.same (messages_of old.now.cluster.cluster new.now.cluster.cluster rev) nodes.old.items nodes.new.items) }
+    ensures told { IfOk result (λ _. AreTold P.state P.same (messages_of present.old.cluster.cluster next.now.cluster.cluster rev) nodes.old.items nodes.new.items) }
     ensures listed { IfOk result (λ listed. listed.items ≡ streams_cut nodes.old.items nodes.new.items) }
+    ensures leads { OnOk result (Leads changes.now present.old.cluster.cluster present.new.cluster.cluster) }
+    ensures counted { OnOk result (IsCounted present.new.cluster.cluster present.new.groups) }
+    ensures nodes { LeavesNodes present.old.cluster.cluster present.new.cluster.cluster }
     ensures err { OnErr result (nodes.new ≡ nodes.old) }
 {
-    let turns = all_turns(alloc, old, new, rev, nodes.as_slice())?;
+    present.has_all_in_use();
+    next.has_all_in_use();
+    let turns = all_turns(alloc, present, next, rev, nodes.as_slice())?;
     let mut listed = Vec::with_capacity(alloc, 3 * turns.len())?;
+    apply_all(alloc, present, changes)?;
     let mut i = 0;
     for turn in turns {
         tell_one(&mut nodes[i], turn, &mut listed);

@@ -14,9 +14,9 @@ use Rattle.cl_types.specs.Text.{text_order}
 use Rattle.cl_types.specs.Written.{kind_text, name_text}
 use Rattle.watch_streams.specs.declared.message.StreamObject.{StreamObject}
 use Rattle.watch_streams.specs.declared.message.StreamObject.TheVariants as object
-use Rattle.held_maps.specs.Held.{policy_title, egress_title, policy_object, egress_object, policies_map, egress_in}
+use Rattle.held_maps.specs.Held.{policy_title, egress_title, policy_object, egress_object, policies_map}
 use Rattle.held_maps.proofs.Picked.{picked, part_of, picked_ascend, found_picked}
-use Rattle.watch_streams.specs.HeldEvaluation.{policy_in}
+use Rattle.watch_streams.specs.HeldEvaluation.{egress_in, policy_in}
 use Rattle.watch_streams.specs.Names.{object_text, at_text, AscendByName}
 use Rattle.watch_streams.specs.Net.{NetPolicyData, NetEgressData}
 use Rattle.watch_streams.specs.MapLaws.{first_at, found_by_name, ascends_by_name}

@@ -1,7 +1,6 @@
 -- What an agent holds: four lists, each in the order of the texts of names, and the revision of each stream (this
 -- project's own). The map of the stream Policies is that of two of the lists together.
 use Rattle.std.specs.Prelude.{◌≡◌, ℕ, List, [], ◌∷◌, ◌++◌, map, codes}
-use Rattle.std.specs.List.{flat_map}
 use Rattle.cl_types.specs.declared.stream.Rev.{Rev}
 use Rattle.cl_types.specs.declared.stream.Stream.{Stream}
 use Rattle.cl_types.specs.declared.stream.Stream.TheVariants.{Policies, Addresses, Applied}
@@ -63,15 +62,6 @@ abbrev pub groups_on : Stream → HeldData → List StreamObject
 groups_on Policies h = []
 groups_on Addresses h = h.addresses
 groups_on Applied h = h.applied
-
--- the Egresses of the map of policies
-abbrev pub egress_in : StreamObject → List NetEgressData
-egress_in (object.Policy p) = []
-egress_in (object.Egress e) = e ∷ []
-egress_in (object.Group g members) = []
-
-abbrev pub held_egresses : HeldMaps → List NetEgressData
-held_egresses maps = flat_map egress_in maps.policies
 
 -- ---- revisions
 

@@ -38,7 +38,7 @@ pub(crate) fn resolving_groups<'a>(
 }
 
 /// The stream on which these groups are held.
-pub(crate) fn resolving_stream(dir: Dir) -> Stream
+pub fn resolving_stream(dir: Dir) -> Stream
     ensures { (maps : HeldMaps) → map_on result maps ≡ resolving_map maps dir }
 {
     match dir {

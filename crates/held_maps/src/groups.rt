@@ -108,7 +108,8 @@ fn any_at(a: Addr, members: &[HeldMember]) -> bool
     members.iter().any(|member| is_at(a, member))
 }
 
-fn member_at(held: &Held, s: Stream, a: Addr, g: &GroupKey) -> bool
+/// Whether a member of the group, as it is held on the stream, has the address.
+pub(crate) fn member_at(held: &Held, s: Stream, a: Addr, g: &GroupKey) -> bool
     ensures { result ≡ held_member (is_at a) (map_on s (maps_of held.now)) g.now }
 {
     match held.group(s, g) {

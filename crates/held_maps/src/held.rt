@@ -60,7 +60,7 @@ fn everything(alloc: Global) -> Selector
     }
 }
 
-fn all_pods(alloc: Global) -> GroupKey
+pub(crate) fn all_pods(alloc: Global) -> GroupKey
     ensures { result ≡ all_pods }
 {
     GroupKey {
@@ -70,8 +70,8 @@ fn all_pods(alloc: Global) -> GroupKey
 }
 
 impl Held {
-    ghost use Rattle.held_maps.specs.Held.{nothing_held, revisions_of, groups_on, maps_of, held_egresses};
-    ghost use Rattle.watch_streams.specs.HeldEvaluation.{held_policies};
+    ghost use Rattle.held_maps.specs.Held.{nothing_held, revisions_of, groups_on, maps_of};
+    ghost use Rattle.watch_streams.specs.HeldEvaluation.{held_egresses, held_policies};
 
     /// Three empty maps at revision 0. It does not allocate.
     pub fn new(alloc: Global) -> Held

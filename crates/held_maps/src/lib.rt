@@ -12,6 +12,7 @@ mod laws;
 mod message_steps;
 mod peers;
 mod prepare;
+mod readers;
 mod ready;
 mod rows;
 mod rules;
@@ -20,6 +21,7 @@ mod shelf;
 mod steps;
 mod titles;
 
+pub use complete::resolving_stream;
 pub use held::Held;
 pub use laws::{one_revision_is_the_policies_verdict, other_streams_stay, taken_messages_lead_on};
 pub use ready::Ready;

@@ -1,4 +1,4 @@
-ghost use Rattle.std.specs.Prelude.{◌≡◌, [], ℕ, ◌+◌, List as Items, length, option_copied};
+ghost use Rattle.std.specs.Prelude.{◌≡◌, [], ℕ, ◌+◌, List as Items, length, IfOk, option_copied};
 ghost use Rattle.cl_types.specs.Ascending.{Ascends, found};
 ghost use Rattle.cl_types.specs.Text.{text_order};
 ghost use Rattle.held_maps.specs.Held.{policy_title, egress_title};
@@ -6,7 +6,7 @@ ghost use Rattle.watch_streams.specs.Names.{object_text};
 ghost use Rattle.held_maps.specs.Rows.{HasRows, IsRoom};
 
 use crate::rows::Rows;
-use cl_types::{List, Text, search};
+use cl_types::{Copies, List, NoMemory, Text, search};
 use std::alloc::Global;
 use std::marker::Model;
 use watch_streams::{NetEgress, NetPolicy, StreamObject};
@@ -26,6 +26,16 @@ impl Titled for NetEgress {
 
 impl Titled for StreamObject {
     ghost title = { object_text };
+}
+
+fn copy_texts(texts: &Vec<Text>) -> Result<Vec<Text>, NoMemory>
+    ensures { IfOk result (λ copy. copy.items ≡ texts.now.items) }
+{
+    let mut copy = Vec::with_capacity(*texts.allocator(), texts.len())?;
+    for text in texts {
+        copy.push(text.copy()?)?;
+    }
+    Ok(copy)
 }
 
 /// Objects in the order of their texts, which are kept beside them.
@@ -100,5 +110,17 @@ impl<T: Titled> Shelf<T> {
     {
         let _ = rows.titles.append(&mut self.titles);
         let _ = rows.objects.append(self.objects.vec_mut());
+    }
+}
+
+impl<T: Titled + Copies> Shelf<T> {
+    /// The same objects, once more.
+    pub(crate) fn copy(&self) -> Result<Shelf<T>, NoMemory>
+        ensures { IfOk result (λ copy. copy ≡ self.now) }
+    {
+        Ok(Shelf {
+            titles: copy_texts(&self.titles)?,
+            objects: self.objects.copy()?,
+        })
     }
 }

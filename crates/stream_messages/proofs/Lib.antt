@@ -1,3 +1,2 @@
 mod History
-mod Sorting
 mod Titles

@@ -11,12 +11,12 @@ ghost use Rattle.watch_streams.specs.Difference.{all_texts, changed, difference,
 ghost use Rattle.watch_streams.specs.Names.{AscendByName, at_text, name_of, object_text};
 
 use crate::named::{Named, name_all};
-use crate::sorted::sorted as sorted_items;
 use cl_types::{Copies, List, NoMemory, Same, Text, find};
 use label_select::GroupKey;
 use std::alloc::Global;
 use watch_streams::{
     Changes, HeldMember, NetEgress, NetPolicy, Objects, StreamChange, StreamName, StreamObject,
+    sorted as sorted_items,
 };
 
 fn has_member(members: &[HeldMember], m: &HeldMember) -> bool

@@ -7,7 +7,6 @@ mod groups;
 mod laws;
 mod named;
 mod net;
-mod sorted;
 
 pub use changes::changes_between;
 pub use groups::{copy_groups, policy_groups};

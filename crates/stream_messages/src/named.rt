@@ -5,12 +5,11 @@ ghost use Rattle.label_select.specs.Written.{group_text};
 ghost use Rattle.watch_streams.specs.Names.{by_name, name_text, name_of, object_text};
 ghost use Rattle.watch_streams.specs.Projection.{groups_by_text};
 
-use crate::sorted::sorted as sorted_items;
 use cl_types::{Keyed, List, NoMemory, Text, write_bytes, write_policy};
 use label_select::{GroupKey, write_group};
 use std::alloc::Global;
 use std::marker::Model;
-use watch_streams::StreamObject;
+use watch_streams::{StreamObject, sorted as sorted_items};
 
 /// An object with the text of its name.
 #[derive(Drop)]

@@ -4,9 +4,9 @@ use Rattle.std.proofs.lemmas.List.{length-replicate}
 use Rattle.std.specs.List.{AllByRecursion}
 use Rattle.cluster_types.specs.Cluster.{ClusterData}
 use Rattle.cluster_types.specs.Node.{NodeData}
-use Rattle.ctl_core.specs.declared.outcome.Trio.{Trio}
+use Rattle.node_streams.specs.declared.messages.Trio.{Trio}
 use Rattle.ctl_core.specs.Controller.{ControllerData, IsNew}
-use Rattle.ctl_core.specs.Streams.{first_streams}
+use Rattle.node_streams.specs.Streams.{first_streams}
 use Rattle.held_maps.specs.Held.{HeldData, nothing_held}
 use Rattle.run_machine.specs.Machine.{first_site}
 use Rattle.watch_streams.specs.Ports.{QueueData}

@@ -1,5 +1,6 @@
 -- What changes at one node of the controller, and at its agent, changes at its site.
 use Rattle.std.proofs.Common.{◌≡◌, ℕ, zero, suc, List, [], ◌∷◌, length, get_or, set, map, Bool, true, false, Some, None, if◌then◌else◌, refl, sym, ap, subst, ◌∙◌, arith}
+use Rattle.std.specs.Prelude.{find}
 use Rattle.std.specs.List.{AllByRecursion}
 use Rattle.std.specs.declared.cmp.Ordering.{Ordering}
 use Rattle.std.specs.declared.cmp.Ordering.TheVariants.{Less, Equal, Greater}
@@ -12,12 +13,12 @@ use Rattle.cl_types.specs.Text.{text_eq, text_order, text_order_total}
 use Rattle.cl_types.specs.declared.stream.Stream.{Stream}
 use Rattle.cl_types.specs.declared.stream.Stream.TheVariants.{Policies, Addresses, Applied}
 use Rattle.ctl_core.specs.Controller.{ChangesOneStream, ControllerData}
-use Rattle.ctl_core.specs.Streams.{NodeStreams, StreamData, at_node as compares, stream_of, streams_at, with_stream}
+use Rattle.node_streams.specs.Streams.{NodeStreams, StreamData, at_node as compares, stream_of, streams_at, with_stream}
 use Rattle.held_maps.specs.Held.{HeldData}
 use Rattle.run_machine.specs.Machine.{SiteData}
-use Rattle.suite_run.specs.Answering.{site_at}
 use Rattle.suite_run.specs.Doing.{NameAt, at_node}
 use Rattle.suite_run.specs.RunState.{HasRings, IsRun, run_of, site_of, sites_of}
+use Rattle.suite_run.specs.World.{has_name}
 use Rattle.suite_run.proofs.Placing.{Nodes, less_there, name}
 use Rattle.watch_streams.specs.Ports.{QueueData}
 
@@ -111,7 +112,7 @@ same_sites node (x ∷ sites) = ap (λ y. y ∷ map (at_node node (λ x. x)) sit
 -- ---- the site of an agent
 
 pub agent_site : (node : List ℕ) (nodes : Nodes) (held : List HeldData) (i : ℕ) (h : HeldData) → Ascends name text_order nodes → length held ≡ length nodes → NameAt (map name nodes) i node
-    → h ≡ get_or held i h → (n : NodeStreams QueueData) × (site_at node (sites_of nodes held) ≡ Some (site_of n h))
+    → h ≡ get_or held i h → (n : NodeStreams QueueData) × (find (has_name node) (sites_of nodes held) ≡ Some (site_of n h))
 agent_site node [] held i h up same p is = absurd (omega (arith, p.within))
 agent_site node (n ∷ nodes) [] i h up same p is = absurd (omega (arith, same))
 agent_site node (n ∷ nodes) (k ∷ held) zero h up same p is =

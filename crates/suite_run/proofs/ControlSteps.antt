@@ -14,8 +14,8 @@ use Rattle.ctl_core.specs.declared.outcome.RejoinFault.TheVariants as fault
 use Rattle.run_machine.specs.Lines.{after_line, delivering, delivering_site, is_meant_node}
 use Rattle.run_machine.specs.Machine.{ChannelData, Event, OfStreams, SiteData, WorldData, all_happen, channel_on, cut, last_revision}
 use Rattle.run_machine.specs.Settling.{settling, settling_site}
-use Rattle.suite_run.specs.Answering.{AnswersOf, numbers_in_order, site_at}
-use Rattle.suite_run.specs.Controls.{IsRunStep, RunMakes, TellsRejoined, is_served, told_of_cut}
+use Rattle.suite_run.specs.Answering.{AnswersOf, numbers_in_order}
+use Rattle.suite_run.specs.Controls.{IsRunStep, RunMakes, TellsRejoined, is_served}
 use Rattle.suite_run.specs.Cutting.{DoesLine, Rejoins}
 use Rattle.suite_run.specs.Delivering.{Delivers}
 use Rattle.suite_run.specs.Doing.{channel_at, is_listed, stream_at}
@@ -24,7 +24,7 @@ use Rattle.suite_run.specs.Fixing.{StandsFor}
 use Rattle.suite_run.specs.Shown.{IsReady, IsStep, IsWorld, Makes, outcome_of, three}
 use Rattle.cluster_types.specs.Cluster.{ClusterData}
 use Rattle.std.specs.List.{flat_map}
-use Rattle.suite_run.specs.World.{OutcomeData, Step, step, answered, answered_at, at_name, cut_told, delivered, happens_if, has_name, is_refusal, judged, judged_at, line_of, of_node, refused, rejoin_told, rejoined, settled, told_of_item}
+use Rattle.suite_run.specs.World.{OutcomeData, Step, step, answered, answered_at, at_name, cut_told, delivered, happens_if, has_name, is_refusal, judged, judged_at, line_of, of_node, refused, rejoin_told, rejoined, settled, told_of_cut, told_of_item}
 use Rattle.suite_run.specs.declared.item.Item.{Item}
 use Rattle.suite_run.specs.declared.item.Item.TheVariants.{Ask, AskHeld, Cut, Deliver, Rejoin, Settle}
 use Rattle.line_refusals.specs.declared.refusal.Refusal.{Refusal}
@@ -65,7 +65,6 @@ line_refused w item r run said is told st =
 pub record Named (node : List ℕ) (sites : List SiteData) : Type 0 where
   pub site : SiteData
   pub found : find (has_name node) sites ≡ Some site
-  pub stands : site_at node sites ≡ Some site
   pub named : site.node ≡ node
   pub channels : (s : Stream) → channel_at (stream_at node s) sites ≡ channel_on s site
 
@@ -77,7 +76,6 @@ named node (x ∷ sites) listed = by_test (text_eq x.node node) refl listed (nam
     by_test true is here rest = record {
       site = x;
       found = ap (λ b. if b then Some x else find (has_name node) sites) is;
-      stands = ap (λ b. if b then Some x else site_at node sites) is;
       named = text_eq-one x.node node is;
       channels = λ s. ap (λ b. if b then channel_on s x else channel_at (stream_at node s) sites) is;
     }
@@ -86,7 +84,6 @@ named node (x ∷ sites) listed = by_test (text_eq x.node node) refl listed (nam
         record {
           site = one.site;
           found = ap (λ b. if b then Some x else find (has_name node) sites) is ∙ one.found;
-          stands = ap (λ b. if b then Some x else site_at node sites) is ∙ one.stands;
           named = one.named;
           channels = λ s. ap (λ b. if b then channel_on s x else channel_at (stream_at node s) sites) is ∙ one.channels s;
         }
@@ -145,7 +142,7 @@ module _ (old : RunData) (w : WorldData) (st : Stands old w) where
         → IsRunStep (step w (AskHeld node q)) old said
     answered_step q revisions j said a told =
         let x = named node old.sites listed in
-        let one : x.site ≡ a.site = some_one x.site a.site (sym x.stands ∙ a.stands) in
+        let one : x.site ≡ a.site = some_one x.site a.site (sym x.found ∙ a.stands) in
         let same : answered_at q x.site ≡ answered node (three revisions) j =
         (λ i. answered (x.named i) (one i).revisions (held_side (one i).maps q))
         ∙ (λ i. answered node (sym (three_are revisions a.site.revisions a.numbers) i) (sym a.judged i)) in

@@ -6,7 +6,7 @@ use Rattle.std.specs.declared.cmp.Ordering.{Ordering}
 use Rattle.std.specs.declared.cmp.Ordering.TheVariants.{Less, Equal, Greater}
 use Rattle.cl_types.specs.Text.{text_eq, text_order}
 use Rattle.ctl_core.specs.Controller.{ControllerData, IsController}
-use Rattle.ctl_core.specs.Streams.{streams_at}
+use Rattle.node_streams.specs.Streams.{streams_at}
 use Rattle.held_maps.specs.Held.{HeldData}
 use Rattle.suite_run.specs.Doing.{is_listed}
 use Rattle.suite_run.specs.RunState.{sites_of}

@@ -16,7 +16,7 @@ use Rattle.ctl_core.specs.declared.outcome.RejoinFault.TheVariants.{NotCut, Full
 use Rattle.ctl_core.specs.Controller.{ChangesOneStream, ControllerData, IsController, live_at}
 use Rattle.ctl_core.specs.Controller as controller
 use Rattle.stream_messages.specs.Messages.{snapshot}
-use Rattle.ctl_core.specs.Streams.{IsBegunAgain, IsCut, IsFull, NodeStreams, StreamData, TakesFrom, at_node as compares, stream_of, streams_at, with_stream}
+use Rattle.node_streams.specs.Streams.{IsBegunAgain, IsCut, IsFull, NodeStreams, StreamData, TakesFrom, at_node as compares, stream_of, streams_at, with_stream}
 use Rattle.held_maps.specs.Held.{HeldData, IsTaken}
 use Rattle.run_machine.specs.Machine.{ChannelData, SiteData, StreamOf, channel_on, cut, cut_at, cut_off, rejoin, rejoined, take, taken, taken_of, with_channel, with_message}
 use Rattle.suite_run.specs.Cutting.{Rejoins, RejoinsAt, StaysFull}

@@ -10,7 +10,7 @@ use Rattle.cl_types.specs.OrderLaws.{text_eq-one, text_order_exact}
 use Rattle.cl_types.specs.Text.{text_eq, text_order, text_order_total}
 use Rattle.cluster_types.specs.Node.{NodeData}
 use Rattle.ctl_core.specs.Controller.{ControllerData, IsController}
-use Rattle.ctl_core.specs.Streams.{NodeStreams, streams_at}
+use Rattle.node_streams.specs.Streams.{NodeStreams, streams_at}
 use Rattle.held_maps.specs.Held.{HeldData}
 use Rattle.run_machine.specs.Machine.{SiteData}
 use Rattle.suite_run.specs.Doing.{NameAt, is_listed, node_names}

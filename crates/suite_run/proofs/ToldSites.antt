@@ -10,8 +10,9 @@ use Rattle.cl_types.specs.declared.stream.Stream.{Stream}
 use Rattle.cl_types.specs.declared.stream.Stream.TheVariants.{Policies, Addresses, Applied}
 use Rattle.cluster_types.specs.Cluster.{ClusterData}
 use Rattle.stream_messages.specs.Messages.{delta}
-use Rattle.ctl_core.specs.Streams.{NodeStreams, StreamData}
-use Rattle.ctl_core.specs.Telling.{AreTold, IsTold, NodeIsTold, cuts_of, listed_cuts, messages_of, names_of, streams_cut}
+use Rattle.node_streams.specs.Streams.{NodeStreams, StreamData}
+use Rattle.ctl_core.specs.Telling.{listed_cuts, messages_of, names_of, streams_cut}
+use Rattle.node_streams.specs.Telling.{AreTold, IsTold, NodeIsTold, cuts_of}
 use Rattle.held_maps.specs.Held.{HeldData, maps_of}
 use Rattle.run_machine.specs.Lines.{every_stream}
 use Rattle.run_machine.specs.Machine.{SiteData, StreamOf, WorldData, channel_on, cut_off, delta as machine_delta, is_among, last_cluster, last_revision, offered_all, sent, with_message}

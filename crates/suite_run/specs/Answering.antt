@@ -1,16 +1,11 @@
 -- What an agent answers of what it holds (this project's own).
-use Rattle.std.specs.Prelude.{◌≡◌, ℕ, List, [], ◌∷◌, map, Option, Some, None, if◌then◌else◌}
+use Rattle.std.specs.Prelude.{◌≡◌, ℕ, List, [], ◌∷◌, find, map, Some}
 use Rattle.cl_types.specs.Judgement.{Judgement}
-use Rattle.cl_types.specs.Text.{text_eq}
 use Rattle.cl_types.specs.declared.question.Question.{Question}
 use Rattle.cl_types.specs.declared.stream.Rev.{Rev}
 use Rattle.run_machine.specs.Machine.{OfStreams, SiteData}
+use Rattle.suite_run.specs.World.{has_name}
 use Rattle.watch_streams.specs.HeldEvaluation.{held_side}
-
--- the site with the name
-abbrev pub site_at : List ℕ → List SiteData → Option SiteData
-site_at node [] = None
-site_at node (x ∷ sites) = if text_eq x.node node then Some x else site_at node sites
 
 -- in the order of the streams
 abbrev pub numbers_in_order : OfStreams ℕ → List ℕ
@@ -19,6 +14,6 @@ numbers_in_order revisions = revisions.policies ∷ revisions.addresses ∷ revi
 -- the revisions of the node's maps, and the verdict of what they hold
 pub record AnswersOf (node : List ℕ) (q : Question) (sites : List SiteData) (revisions : List Rev) (judgement : Judgement) : Type 0 where
   pub site : SiteData
-  pub stands : site_at node sites ≡ Some site
+  pub stands : find (has_name node) sites ≡ Some site
   pub numbers : map (λ (rev : Rev). rev.0) revisions ≡ numbers_in_order site.revisions
   pub judged : judgement ≡ held_side site.maps q

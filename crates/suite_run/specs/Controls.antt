@@ -12,7 +12,7 @@ use Rattle.suite_run.specs.RunState.{RunData, Stands}
 use Rattle.suite_run.specs.Shown.{IsWorld, Shows, outcome_of}
 use Rattle.suite_run.specs.declared.take.Taken.{Taken}
 use Rattle.suite_run.specs.declared.world.World.{World}
-use Rattle.suite_run.specs.World.{OutcomeData, Step, step, no_change, refused, rejoined, was_cut}
+use Rattle.suite_run.specs.World.{OutcomeData, Step, step, refused, rejoined}
 
 -- a step of the machine led to the run, and this is told of it
 pub record IsRunStep (step : Step) (run : RunData) (said : LineOutcome) : Type 0 where
@@ -21,10 +21,6 @@ pub record IsRunStep (step : Step) (run : RunData) (said : LineOutcome) : Type 0
 
 abbrev pub RunMakes : Item → RunData → RunData → LineOutcome → Type 0
 RunMakes item old new said = (w : WorldData) → Stands old w → IsRunStep (step w item) new said
-
--- what is told of a stream that is cut, by whether it was live
-abbrev pub told_of_cut : Bool → OutcomeData
-told_of_cut live = if live then was_cut else no_change
 
 -- what is told of a stream that is to begin again, as far as memory went
 abbrev pub TellsRejoined : Result Rev RejoinFault → OutcomeData → Type 0

@@ -5,7 +5,7 @@ use Rattle.cl_types.specs.declared.stream.Rev.{Rev}
 use Rattle.cluster_types.specs.Cluster.{ClusterData}
 use Rattle.cluster_types.specs.Node.{NodeData}
 use Rattle.ctl_core.specs.Controller.{ControllerData}
-use Rattle.ctl_core.specs.Streams.{NodeStreams, StreamData}
+use Rattle.node_streams.specs.Streams.{NodeStreams, StreamData}
 use Rattle.held_maps.specs.declared.held.Revisions.{Revisions}
 use Rattle.held_maps.specs.Held.{HeldData, maps_of}
 use Rattle.run_machine.specs.Machine.{ChannelData, Event, OfStreams, SiteData, WorldData, all_happen, first_site, last_cluster, last_revision}

@@ -1,6 +1,6 @@
 -- How a run begins (this project's own).
 use Rattle.std.specs.Prelude.{ℕ}
-use Rattle.ctl_core.specs.declared.outcome.Trio.{Trio}
+use Rattle.node_streams.specs.declared.messages.Trio.{Trio}
 use Rattle.watch_streams.specs.Ports.{QueueData, empty_queue}
 
 -- a queue for each stream of a node, with nothing queued

@@ -166,8 +166,12 @@ judged_at w question x = judged (last_revision w) (side w.cluster x.node questio
 abbrev pub answered_at : Question → SiteData → OutcomeData
 answered_at question x = answered x.node x.revisions (held_side x.maps question)
 
+-- what is told of a stream that is cut, by whether it was live
+abbrev pub told_of_cut : Bool → OutcomeData
+told_of_cut live = if live then was_cut else no_change
+
 abbrev pub cut_told : Stream → SiteData → OutcomeData
-cut_told s x = if (channel_on s x).live then was_cut else no_change
+cut_told s x = told_of_cut (channel_on s x).live
 
 -- a live stream doesn't begin again, and none on which no place is left
 abbrev pub rejoin_told : WorldData → Stream → SiteData → OutcomeData

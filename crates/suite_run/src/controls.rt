@@ -1,8 +1,9 @@
 //! Control lines: what is delivered, cut, rejoined and settled, and questions.
 ghost use Rattle.std.specs.Prelude.{◌≡◌, IfOk, option_copied};
 ghost use Rattle.suite_run.specs.declared.item.Item.TheVariants.{Ask, AskHeld, Cut, Deliver, Rejoin, Settle};
-ghost use Rattle.suite_run.specs.Controls.{RunMakes, TellsRejoined, is_served, told_of_cut};
+ghost use Rattle.suite_run.specs.Controls.{RunMakes, TellsRejoined, is_served};
 ghost use Rattle.suite_run.specs.Shown.{IsReady, Makes, outcome_of};
+ghost use Rattle.suite_run.specs.World.{told_of_cut};
 
 use crate::fixing::Early;
 use crate::run::Run;

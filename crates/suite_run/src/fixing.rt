@@ -1,5 +1,6 @@
 //! A line of changes that comes while the nodes aren't fixed.
-ghost use Rattle.std.specs.Prelude.{◌≡◌, ◌≤◌, IfOk, false};
+ghost use Rattle.std.specs.Prelude.{◌≡◌, IfOk, false};
+ghost use Rattle.command_words.specs.Words.{IsRing};
 ghost use Rattle.suite_run.specs.Fixing.{AnswersFirst, Begins, nodes_in_front};
 
 use crate::changing::Changed;
@@ -59,7 +60,7 @@ fn begin(
     changes: &[Change],
 ) -> Result<(Run, bool), ClusterRefusal>
     requires early { nodes.cluster.fixed ≡ false }
-    requires ring { (1 ≤ ring) × (ring ≤ 4096) }
+    requires ring { IsRing ring }
     ensures { Begins changes.now nodes.cluster ring result }
 {
     nodes.keeps_its_form();
@@ -81,7 +82,7 @@ pub(crate) fn first_line(
     changes: &[Change],
 ) -> Result<First, ClusterRefusal>
     requires early { cluster.now.cluster.fixed ≡ false }
-    requires ring { (1 ≤ ring) × (ring ≤ 4096) }
+    requires ring { IsRing ring }
     ensures { AnswersFirst changes.now cluster.now.cluster ring result }
 {
     cluster.keeps_its_form();

@@ -1,5 +1,6 @@
 //! A run begins where its nodes are fixed.
-ghost use Rattle.std.specs.Prelude.{◌≡◌, ◌≤◌, IfOk, replicate};
+ghost use Rattle.std.specs.Prelude.{◌≡◌, IfOk, replicate};
+ghost use Rattle.command_words.specs.Words.{IsRing};
 ghost use Rattle.cluster_types.specs.Cluster.{HasNodesAlone};
 ghost use Rattle.held_maps.specs.Held.{nothing_held};
 ghost use Rattle.suite_run.specs.RunState.{begun_run};
@@ -14,7 +15,7 @@ use std::alloc::Global;
 use watch_streams::QueuePort;
 
 fn empty_ports(alloc: Global, ring: u32) -> Result<Trio<QueuePort>, NoMemory>
-    requires { (1 ≤ ring) × (ring ≤ 4096) }
+    requires { IsRing ring }
     ensures { IfOk result (λ ports. ports ≡ empty_ports ring) }
 {
     Ok(Trio {
@@ -26,7 +27,7 @@ fn empty_ports(alloc: Global, ring: u32) -> Result<Trio<QueuePort>, NoMemory>
 
 // The ports of so many nodes.
 fn first_ports(alloc: Global, nodes: usize, ring: u32) -> Result<List<Trio<QueuePort>>, NoMemory>
-    requires { (1 ≤ ring) × (ring ≤ 4096) }
+    requires { IsRing ring }
     ensures { IfOk result (λ ports. ports ≡ replicate nodes (empty_ports ring)) }
 {
     let mut ports = Vec::with_capacity(alloc, nodes)?;
@@ -51,7 +52,7 @@ impl Run {
     /// A run of these nodes, which are fixed from now on, at revision 0. Nothing was sent, and the agents hold nothing.
     pub(crate) fn new(alloc: Global, cluster: Cluster, ring: u32) -> Result<Run, NoMemory>
         requires alone { HasNodesAlone cluster.cluster }
-        requires ring { (1 ≤ ring) × (ring ≤ 4096) }
+        requires ring { IsRing ring }
         ensures { IfOk result (λ run. run ≡ begun_run cluster.cluster ring) }
     {
         let nodes = cluster.nodes().len();

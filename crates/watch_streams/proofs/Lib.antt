@@ -12,4 +12,5 @@ pub mod NamedOnce
 pub mod NetPolicies
 pub mod OneRevision
 pub mod Projections
+pub mod Sorting
 pub mod Streams

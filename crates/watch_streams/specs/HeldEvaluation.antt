@@ -25,7 +25,7 @@ use Rattle.watch_streams.specs.declared.message.StreamObject.TheVariants as obje
 use Rattle.watch_streams.specs.declared.net.NetPeers.{NetPeers}
 use Rattle.watch_streams.specs.declared.net.NetRule.{NetRule}
 use Rattle.watch_streams.specs.Names.{at_text}
-use Rattle.watch_streams.specs.Net.{NetPolicyData, MemberData, net_isolates}
+use Rattle.watch_streams.specs.Net.{NetPolicyData, NetEgressData, MemberData, net_isolates}
 use Rattle.watch_streams.specs.Projection.{all_pods, has_names}
 
 -- the three maps that an agent holds
@@ -123,6 +123,15 @@ policy_in (object.Group g members) = []
 
 abbrev pub held_policies : HeldMaps → List NetPolicyData
 held_policies h = flat_map policy_in h.policies
+
+-- the Egresses of the map of policies
+abbrev pub egress_in : StreamObject → List NetEgressData
+egress_in (object.Policy p) = []
+egress_in (object.Egress e) = e ∷ []
+egress_in (object.Group g members) = []
+
+abbrev pub held_egresses : HeldMaps → List NetEgressData
+held_egresses maps = flat_map egress_in maps.policies
 
 abbrev pub net_rule_key : NetRule → RuleKey
 net_rule_key r = r.key

@@ -1,13 +1,17 @@
 pub mod ChangeLaws
 pub mod Difference
 pub mod HeldEvaluation
+pub mod InForce
+pub mod KeyedChanges
 pub mod Laws
 pub mod MapLaws
 pub mod MemberOrder
 pub mod Names
 pub mod Net
 pub mod OneOfAll
+pub mod PartOrders
 pub mod Ports
 pub mod Projection
 pub mod QueuePlaces
+pub mod RuleChanges
 pub mod Stream

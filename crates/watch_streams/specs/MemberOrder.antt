@@ -17,7 +17,7 @@ use Rattle.cl_types.specs.Addr.{addr_order, addr_order_total}
 use Rattle.cluster_types.specs.Pod.{port_order, proto_place}
 use Rattle.watch_streams.specs.Net.{MemberData, member_order, numbered_port_order, ascending_members}
 
-proto_exact : (a b : Proto) → proto_place a ≡ proto_place b → a ≡ b
+pub proto_exact : (a b : Proto) → proto_place a ≡ proto_place b → a ≡ b
 proto_exact a b e = sym (back a) ∙ ap proto_at e ∙ back b
   where
     proto_at : ℕ → Proto

@@ -1,4 +1,9 @@
 //! What holds of all clusters and messages, whatever the code.
+ghost use Rattle.std.specs.Prelude.{◌≡◌};
+ghost use Rattle.std.specs.declared.cmp.Ordering.TheVariants.{Equal};
+ghost use Rattle.cl_types.specs.Prefix.{PrefixData};
+ghost use Rattle.watch_streams.specs.declared.rule_changes.Resolved.{Resolved};
+ghost use Rattle.watch_streams.specs.PartOrders.{block_order, resolved_order};
 ghost use Rattle.watch_streams.specs.Laws.{AppliedPoliciesAreWhole, DifferencesLeadToTheNewMap, OneRevisionIsThePoliciesVerdict, PoliciesOnStreamsAreWhole, SnapshotsAreTheMap, DifferencesNameOnce, MapsNameOnce, ProjectionsAreMaps, StreamsLeadOn};
 
 /// A message leads an agent's map to the map that it was made of.
@@ -44,3 +49,13 @@ pub fn one_revision_is_the_policies_verdict()
     cl_types::texts_tell_names_apart();
     cl_types::orders_are_exact();
 }
+
+/// Only equal blocks stand at one place of their order.
+pub fn block_order_is_exact()
+    ensures { (a b : PrefixData) → block_order a b ≡ Equal → a ≡ b }
+{}
+
+/// Only equal ports stand at one place of their order.
+pub fn resolved_order_is_exact()
+    ensures { (a b : Resolved) → resolved_order a b ≡ Equal → a ≡ b }
+{}

@@ -15,7 +15,7 @@ use cl_types::{Copies, Keyed, List, NamedPort, NoMemory, Proto, put, remove};
 use std::alloc::Global;
 use std::cmp::Ordering;
 
-fn proto_place(proto: Proto) -> u8
+pub(crate) fn proto_place(proto: Proto) -> u8
     ensures { result ≡ proto_place proto }
 {
     match proto {
@@ -106,8 +106,8 @@ impl Keyed for HeldMember {
     }
 }
 
-// Sorts the items and keeps each once.
-fn sort_once<T: Ord + Drop>(items: &mut Vec<T>) -> Result<(), NoMemory>
+/// Sorts the items and keeps each once.
+pub fn sort_once<T: Ord + Drop>(items: &mut Vec<T>) -> Result<(), NoMemory>
     requires { (x y : T) → T.cmp x y ≡ Equal → x ≡ y }
     ensures { OnOk result (items.new.items ≡ sorted_set T.cmp items.old.items) }
 {

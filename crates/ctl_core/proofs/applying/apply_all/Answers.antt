@@ -1,28 +1,37 @@
-use Rattle.std.proofs.Common.{◌+◌, ◌∷◌, drop, sym, ap, ◌∙◌, arith}
-use Rattle.std.proofs.lemmas.List.{at_drop_more}
-use Rattle.std.proofs.lemmas.Result.{err_from_is_err_and}
+use Rattle.std.proofs.Common.{Bool, false, ◌+◌, ◌||◌, ◌∷◌, drop, refl, sym, ap, ◌∙◌, arith}
+use Rattle.std.proofs.lemmas.List.{at_drop_all, at_drop_more}
 use Rattle.cluster_objects.specs.Changes.{after}
-use Rattle.ctl_core.proofs.Coming.{came_after, nodes_on, one_made, one_refused, refused_comes, same_on}
+use Rattle.ctl_core.proofs.Coming.{came_after, came_first, nodes_on, one_made}
 use Rattle.ctl_core.proofs.applying.apply_all.Goals as goal
 
-pub returns-in_err-more-clause-made : goal.returns-in_err-more-clause-made
-returns-in_err-more-clause-made c =
-    let e = err_from_is_err_and c.from_residual.result c.from_residual.ensures.1 in
-    rw e.1
-    (refused_comes _ _ c.apply_one.new.cluster.cluster c.apply_one.new.cluster.cluster e.0 (rw e.2 c.in_err-more.ensures.made)
-    (λ refused. sym c.loop-change.invariant.0
-    ∙ (at_drop_more (λ xs. came_after c.loop-change.differs (after c.loop-change.cluster.cluster xs)) c.args.changes.now c.loop-change.change-index c.change-item.result (omega (arith, c.loop-change-test.true, c.loop-change.auto.change-index-end))
-    ∙ (ap (λ x. came_after c.loop-change.differs (after c.loop-change.cluster.cluster (x ∷ drop (c.loop-change.change-index + 1) c.args.changes.now))) (sym c.change-item.is)
-    ∙ one_refused c.loop-change.differs c.loop-change.cluster.cluster c.change-item.result (drop (c.loop-change.change-index + 1) c.args.changes.now) _ refused))))
+pub loop-change-init : goal.loop-change-init
+loop-change-init c = record {
+  leads = (false, came_first (after c.args.side.now.cluster.cluster c.args.changes.now));
+  nodes = record { nodes = refl; fixed = c.requires.fixed };
+  counted = c.requires.counted;
+}
 
 pub loop-change-preserved : goal.loop-change-preserved
-loop-change-preserved c = (
-  sym (one_made c.loop-change.differs c.in_ok-more.more c.loop-change.cluster.cluster c.apply_one.new.cluster.cluster c.change-item.result (drop (c.loop-change.change-index + 1) c.args.changes.now) c.in_ok-more.ensures.made)
-      ∙ (ap (λ x. came_after c.loop-change.differs (after c.loop-change.cluster.cluster (x ∷ drop (c.loop-change.change-index + 1) c.args.changes.now))) c.change-item.is
-      ∙ (sym (at_drop_more (λ xs. came_after c.loop-change.differs (after c.loop-change.cluster.cluster xs)) c.args.changes.now c.loop-change.change-index c.change-item.result (omega (arith, c.loop-change-test.true, c.loop-change.auto.change-index-end)))
-      ∙ c.loop-change.invariant.0)),
-  (
-    nodes_on _ _ _ c.loop-change.invariant.1.0 c.in_ok-more.ensures.nodes,
-    same_on c.loop-change.differs c.in_ok-more.more _ _ _ c.loop-change.invariant.1.1 c.in_ok-more.ensures.same,
-  ),
-)
+loop-change-preserved c =
+    let d : Bool = c.loop-change.invariant.leads.0 in
+    record {
+      leads = (
+        d || c.in-Ok.field-0,
+        sym (one_made d c.in-Ok.field-0 c.loop-change.side.cluster.cluster c.apply.new.self.cluster.cluster c.change-item.result (drop (c.loop-change.change-index + 1) c.args.changes.now) c.in-Ok.ensures.made)
+            ∙ (ap (λ x. came_after d (after c.loop-change.side.cluster.cluster (x ∷ drop (c.loop-change.change-index + 1) c.args.changes.now))) c.change-item.is
+            ∙ (sym (at_drop_more (λ xs. came_after d (after c.loop-change.side.cluster.cluster xs)) c.args.changes.now c.loop-change.change-index c.change-item.result (omega (arith, c.loop-change-test.true, c.loop-change.auto.change-index-end)))
+            ∙ c.loop-change.invariant.leads.1)),
+      );
+      nodes = nodes_on _ _ _ c.loop-change.invariant.nodes c.in-Ok.ensures.nodes;
+      counted = c.in-Ok.ensures.counted;
+    }
+
+pub returns-clause-leads : goal.returns-clause-leads
+returns-clause-leads c =
+    let d : Bool = c.loop-change.invariant.leads.0 in
+    record {
+      differs = d || false;
+      made =
+          sym c.loop-change.invariant.leads.1
+          ∙ at_drop_all (λ xs. came_after d (after c.loop-change.side.cluster.cluster xs)) c.args.changes.now c.loop-change.change-index (omega (arith, c.loop-change-test.false));
+    }

@@ -6,18 +6,18 @@ use Rattle.ctl_core.proofs.turns.tell_all.Goals as goal
 
 pub loop-turn-init : goal.loop-turn-init
 loop-turn-init g c =
-    let turns_are = c.in_ok-turns.ensures ∙ ap (map (turn_of c.args.old.now.cluster.cluster c.args.new.now.cluster.cluster c.args.rev)) c.as_slice.ensures.value in
-    begins g.P.Port.state g.P.Port.same c.args.old.now.cluster.cluster c.args.new.now.cluster.cluster c.args.rev c.args.nodes.now.items _ _ _ _
+    let turns_are = c.in_ok-turns.ensures ∙ ap (map (turn_of c.args.present.now.cluster.cluster c.args.next.now.cluster.cluster c.args.rev)) c.as_slice.ensures.value in
+    begins g.P.Port.state g.P.Port.same c.args.present.now.cluster.cluster c.args.next.now.cluster.cluster c.args.rev c.args.nodes.now.items _ _ _ _
     (c.into_iter-turn-iterator.ensures.into_iter_gives.0 ∙ turns_are) c.in_ok-listed.ensures.items
-    (omega (arith, c.len.ensures, c.in_ok-listed.ensures.exact, c.in_ok-listed.ensures.len, ap length turns_are, length-map c.args.nodes.now.items (turn_of c.args.old.now.cluster.cluster c.args.new.now.cluster.cluster c.args.rev), c.in_ok-turns.turns.ok))
+    (omega (arith, c.len.ensures, c.in_ok-listed.ensures.exact, c.in_ok-listed.ensures.len, ap length turns_are, length-map c.args.nodes.now.items (turn_of c.args.present.now.cluster.cluster c.args.next.now.cluster.cluster c.args.rev), c.in_ok-turns.turns.ok))
 
 pub tell_one-requires-clause-live : goal.tell_one-requires-clause-live
 tell_one-requires-clause-live g c =
-    let n = next g.P.Port.state g.P.Port.same c.args.old.now.cluster.cluster c.args.new.now.cluster.cluster c.args.rev _ _ c.loop-turn.i c.in-Some.turn _ _ _ _ _ c.in-Some.ensures.steps.0 c.loop-turn.invariant in
-    live g.P.Port.state g.P.Port.same c.args.old.now.cluster.cluster c.args.new.now.cluster.cluster c.args.rev _ _ c.loop-turn.i c.in-Some.turn _ _ _ _ n c.index_mut.result.now c.index_mut.ensures.value
+    let n = next g.P.Port.state g.P.Port.same c.args.present.now.cluster.cluster c.args.next.now.cluster.cluster c.args.rev _ _ c.loop-turn.i c.in-Some.turn _ _ _ _ _ c.in-Some.ensures.steps.0 c.loop-turn.invariant in
+    live g.P.Port.state g.P.Port.same c.args.present.now.cluster.cluster c.args.next.now.cluster.cluster c.args.rev _ _ c.loop-turn.i c.in-Some.turn _ _ _ _ n c.index_mut.result.now c.index_mut.ensures.value
 
 pub loop-turn-preserved : goal.loop-turn-preserved
 loop-turn-preserved g c =
-    let n = next g.P.Port.state g.P.Port.same c.args.old.now.cluster.cluster c.args.new.now.cluster.cluster c.args.rev _ _ c.loop-turn.i c.in-Some.turn _ _ _ _ _ c.in-Some.ensures.steps.0 c.loop-turn.invariant in
-    goes_on g.P.Port.state g.P.Port.same c.args.old.now.cluster.cluster c.args.new.now.cluster.cluster c.args.rev _ _ c.loop-turn.i c.in-Some.turn _ _ _ _ _ _ _ n c.index_mut.result.now c.tell_one.new.n c.index_mut.ensures.value
+    let n = next g.P.Port.state g.P.Port.same c.args.present.now.cluster.cluster c.args.next.now.cluster.cluster c.args.rev _ _ c.loop-turn.i c.in-Some.turn _ _ _ _ _ c.in-Some.ensures.steps.0 c.loop-turn.invariant in
+    goes_on g.P.Port.state g.P.Port.same c.args.present.now.cluster.cluster c.args.next.now.cluster.cluster c.args.rev _ _ c.loop-turn.i c.in-Some.turn _ _ _ _ _ _ _ n c.index_mut.result.now c.tell_one.new.n c.index_mut.ensures.value
     c.tell_one.ensures.told c.tell_one.ensures.items c.tell_one.ensures.len c.tell_one.ensures.capacity

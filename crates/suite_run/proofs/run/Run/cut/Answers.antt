@@ -1,5 +1,5 @@
 use Rattle.std.proofs.Common.{◌≡◌, true, refl, ap, subst, sym, ◌∙◌}
-use Rattle.ctl_core.specs.Streams.{IsCut}
+use Rattle.node_streams.specs.Streams.{IsCut}
 use Rattle.run_machine.specs.Machine.{cut}
 use Rattle.suite_run.specs.Doing.{channel_at, is_listed, run_after, stream_at}
 use Rattle.suite_run.specs.RunState.{RunData}

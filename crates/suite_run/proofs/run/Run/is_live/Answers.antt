@@ -1,5 +1,5 @@
 use Rattle.std.proofs.Common.{◌≡◌, true, refl, ap, subst, sym, ◌∙◌}
-use Rattle.ctl_core.specs.Streams.{streams_at}
+use Rattle.node_streams.specs.Streams.{streams_at}
 use Rattle.suite_run.specs.Doing.{channel_at, is_listed, stream_at}
 use Rattle.suite_run.specs.RunState.{RunData}
 use Rattle.suite_run.proofs.Moves.{live_run}

@@ -1,6 +1,6 @@
 use Rattle.std.proofs.Common.{◌≡◌, Some, None, true, refl, ap, subst, sym, ◌∙◌, arith}
 use Rattle.std.proofs.lemmas.List.{length-set}
-use Rattle.ctl_core.specs.Streams.{TakesFrom}
+use Rattle.node_streams.specs.Streams.{TakesFrom}
 use Rattle.run_machine.specs.Machine.{take as take_one}
 use Rattle.suite_run.specs.Doing.{NameAt, is_listed, node_names, run_after, stream_at, waiting_at}
 use Rattle.suite_run.specs.RunState.{RunData}

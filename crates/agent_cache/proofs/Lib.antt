@@ -1,0 +1,9 @@
+pub mod Finding
+pub mod KnownRules
+pub mod ListedAddresses
+pub mod Lists
+pub mod Missing
+pub mod OneInForce
+pub mod OneList
+pub mod PartLists
+pub mod Plans

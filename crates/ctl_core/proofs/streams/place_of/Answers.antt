@@ -1,5 +1,0 @@
-use Rattle.ctl_core.proofs.Edits.{no_gap}
-use Rattle.ctl_core.proofs.streams.place_of.Goals as goal
-
-pub returns-in-Err : goal.returns-in-Err
-returns-in-Err g c = absurd (no_gap c.args.node.now c.args.nodes.now c.in-Err.i c.in-Err.ensures.absent c.requires.listed)

@@ -1,7 +1,0 @@
-use Rattle.std.proofs.Common.{◌≡◌}
-use Rattle.ctl_core.specs.Streams.{first_streams}
-use Rattle.ctl_core.proofs.streams.streams_of.Given as goal
-
--- the streams of the nodes whose ports were taken so far
-abbrev pub invariant-loop-trio : goal.invariant-loop-trio
-invariant-loop-trio g l = l.nodes.items ≡ first_streams l.infos l.yielded

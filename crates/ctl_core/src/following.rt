@@ -1,0 +1,108 @@
+//! The index of groups follows a change of its cluster.
+ghost use Rattle.std.specs.Prelude.{◌≡◌, ◌≤◌, IfOk, OnOk, option_copied};
+ghost use Rattle.group_index.specs.Changes.{before_namespace, before_pod};
+ghost use Rattle.group_index.specs.Index.{StandsFor};
+ghost use Rattle.label_select.specs.Group.{Group};
+ghost use Rattle.ctl_core.specs.Following.{IsMoved, StandsBefore, namespace_in, pod_in};
+ghost use Rattle.ctl_core.specs.Naming.{AreGroups};
+ghost use Rattle.ctl_core.specs.Uses.{IsUsedLess, IsUsedMore, times, uses_of};
+
+use cl_types::{NoMemory, Text};
+use cluster_objects::{Change, Cluster, Namespace, Object, ObjectKey, Pod};
+use group_index::GroupIndex;
+use label_select::{GroupKey, group_form};
+
+fn pod_in<'a>(object: Option<&'a Object>) -> Option<&'a Pod>
+    ensures { option_copied result ≡ pod_in (option_copied object.entry) }
+{
+    match object {
+        Some(Object::Pod(pod)) => Some(pod),
+        _ => None,
+    }
+}
+
+fn namespace_in<'a>(object: Option<&'a Object>) -> Option<&'a Namespace>
+    ensures { option_copied result ≡ namespace_in (option_copied object.entry) }
+{
+    match object {
+        Some(Object::Namespace(namespace)) => Some(namespace),
+        _ => None,
+    }
+}
+
+fn pod_moved(
+    index: &mut GroupIndex,
+    c: &Cluster,
+    old: Option<&Pod>,
+    new: Option<&Pod>,
+) -> Result<(), NoMemory>
+    requires { StandsFor index.old (before_pod (option_copied old) (option_copied new) c.now.cluster) }
+    ensures { OnOk result (IsMoved c.now.cluster index.old index.new) }
+{
+    index.pod_changed(c, old, new)?;
+    Ok(())
+}
+
+fn namespace_moved(
+    index: &mut GroupIndex,
+    c: &Cluster,
+    old: Option<&Namespace>,
+    name: &Text,
+) -> Result<(), NoMemory>
+    requires { StandsFor index.old (before_namespace (option_copied old) name.now c.now.cluster) }
+    ensures { OnOk result (IsMoved c.now.cluster index.old index.new) }
+{
+    index.namespace_changed(c, old, name)?;
+    Ok(())
+}
+
+/// Moves the members of the groups in use to those after a change, at whose key this stood before it.
+pub(crate) fn move_members(
+    index: &mut GroupIndex,
+    c: &Cluster,
+    change: &Change,
+    old: Option<&Object>,
+) -> Result<(), NoMemory>
+    requires { StandsBefore change.now (option_copied old) index.old c.now.cluster }
+    ensures { OnOk result (IsMoved c.now.cluster index.old index.new) }
+{
+    match change {
+        Change::Put(Object::Pod(pod)) => pod_moved(index, c, pod_in(old), Some(pod)),
+        Change::Remove(ObjectKey::Pod(_)) => pod_moved(index, c, pod_in(old), None),
+        Change::Put(Object::Namespace(namespace)) => {
+            namespace_moved(index, c, namespace_in(old), &namespace.name)
+        }
+        Change::Remove(ObjectKey::Namespace(name)) => {
+            namespace_moved(index, c, namespace_in(old), name)
+        }
+        _ => Ok(()),
+    }
+}
+
+/// Each of the groups is in use once more.
+pub(crate) fn put_all(
+    index: &mut GroupIndex,
+    c: &Cluster,
+    groups: &[GroupKey],
+) -> Result<(), NoMemory>
+    requires stands { StandsFor index.old c.now.cluster }
+    requires groups { AreGroups index.old }
+    ensures { OnOk result (IsUsedMore c.now.cluster groups.now index.old index.new) }
+{
+    for g in groups {
+        group_form(g);
+        index.put_group(c, g)?;
+    }
+    Ok(())
+}
+
+/// Each of the groups is in use once less. It does not allocate.
+pub(crate) fn drop_all(index: &mut GroupIndex, groups: &[GroupKey])
+    requires { (g : Group) → times g groups.now ≤ uses_of index.old g }
+    ensures { IsUsedLess groups.now index.old index.new }
+{
+    for g in groups {
+        index.keeps_its_form();
+        index.drop_group(g);
+    }
+}
