@@ -9,7 +9,7 @@ use Rattle.cl_types.specs.RuleOrder.{rule_order, rule_order_total}
 use Rattle.label_select.specs.Group.{Group}
 use Rattle.watch_streams.specs.HeldEvaluation.{HeldMaps, held_policies, is_complete}
 use Rattle.watch_streams.specs.InForce.{HeldRule, held_rule_key, held_rules, rules_of}
-use Rattle.agent_cache.specs.declared.standing.Standing.{Standing}
+use Rattle.agent_cache.specs.KnownRule.{KnownRule}
 use Rattle.agent_cache.specs.Missing.{missing_group}
 use Rattle.agent_cache.specs.declared.standing.RuleState.{RuleState}
 use Rattle.agent_cache.specs.declared.standing.RuleState.TheVariants as state
@@ -19,18 +19,18 @@ use Rattle.agent_cache.proofs.Lists.{ascends_map}
 use Rattle.agent_cache.proofs.Missing.{complete_exactly}
 
 -- what is known of the rules stands in the rule order
-pub standings_ascend : (h : HeldMaps) (known : List Standing) → known ≡ standings h → Ascends (λ (s : Standing). s.key) rule_order known
+pub standings_ascend : (h : HeldMaps) (known : List KnownRule) → known ≡ standings h → Ascends (λ (s : KnownRule). s.key) rule_order known
 standings_ascend h known are =
-    let P : List Standing → Type 0 = Ascends (λ (s : Standing). s.key) rule_order in
+    let P : List KnownRule → Type 0 = Ascends (λ (s : KnownRule). s.key) rule_order in
     subst P (sym are)
-    (ascends_map (standing h) (λ (s : Standing). s.key) rule_order (held_rules h) (ascends_sorted held_rule_key rule_order_total (flat_map rules_of (held_policies h))))
+    (ascends_map (standing h) (λ (s : KnownRule). s.key) rule_order (held_rules h) (ascends_sorted held_rule_key rule_order_total (flat_map rules_of (held_policies h))))
 
-module _ (h : HeldMaps) (k : RuleKey) (known : List Standing) (are : known ≡ standings h) where
-  known_at : found (λ (s : Standing). rule_order s.key k) known ≡ option_map (standing h) (rule_at h k)
-  known_at = ap (λ ss. found (λ (s : Standing). rule_order s.key k) ss) are ∙ found_map (standing h) (λ (s : Standing). rule_order s.key k) (held_rules h)
+module _ (h : HeldMaps) (k : RuleKey) (known : List KnownRule) (are : known ≡ standings h) where
+  known_at : found (λ (s : KnownRule). rule_order s.key k) known ≡ option_map (standing h) (rule_at h k)
+  known_at = ap (λ ss. found (λ (s : KnownRule). rule_order s.key k) ss) are ∙ found_map (standing h) (λ (s : KnownRule). rule_order s.key k) (held_rules h)
 
   -- where nothing is known no rule has the key
-  pub absent_rule : found (λ (s : Standing). rule_order s.key k) known ≡ None → rule_at h k ≡ None
+  pub absent_rule : found (λ (s : KnownRule). rule_order s.key k) known ≡ None → rule_at h k ≡ None
   absent_rule none = by_rule (rule_at h k) refl (sym known_at ∙ none)
     where
       by_rule : (o : Option HeldRule) → rule_at h k ≡ o → option_map (standing h) o ≡ None → rule_at h k ≡ None
@@ -38,26 +38,26 @@ module _ (h : HeldMaps) (k : RuleKey) (known : List Standing) (are : known ≡ s
       by_rule (Some x) is f = cc
 
   -- what is known is known of the rule with the key
-  pub known_rule : (s : Standing) → found (λ (s : Standing). rule_order s.key k) known ≡ Some s → (x : HeldRule) × (rule_at h k ≡ Some x) × (missing_group h x.policy x.rule ≡ s.missing)
+  pub known_rule : (s : KnownRule) → found (λ (s : KnownRule). rule_order s.key k) known ≡ Some s → (x : HeldRule) × (rule_at h k ≡ Some x) × (missing_group h x.policy x.rule ≡ s.missing)
   known_rule s here = by_rule (rule_at h k) refl (sym known_at ∙ here)
     where
       by_rule : (o : Option HeldRule) → rule_at h k ≡ o → option_map (standing h) o ≡ Some s → (x : HeldRule) × (rule_at h k ≡ Some x) × (missing_group h x.policy x.rule ≡ s.missing)
       by_rule None is f = cc
-      by_rule (Some x) is f = let one : standing h x ≡ s = cc in (x, is, ap (λ (z : Standing). z.missing) one)
+      by_rule (Some x) is f = let one : standing h x ≡ s = cc in (x, is, ap (λ (z : KnownRule). z.missing) one)
 
   -- a rule of which no group is missing is complete
-  pub complete_rule : (s : Standing) → found (λ (s : Standing). rule_order s.key k) known ≡ Some s → s.missing ≡ None → (x : HeldRule) × (rule_at h k ≡ Some x) × (is_complete h x.policy x.rule ≡ true)
+  pub complete_rule : (s : KnownRule) → found (λ (s : KnownRule). rule_order s.key k) known ≡ Some s → s.missing ≡ None → (x : HeldRule) × (rule_at h k ≡ Some x) × (is_complete h x.policy x.rule ≡ true)
   complete_rule s here none =
       let w = known_rule s here in
       (w.0, w.1, sym (complete_exactly h w.0.policy w.0.rule) ∙ ap is_none (w.2 ∙ none))
 
   -- and one of which a group is missing isn't
-  pub waiting_rule : (s : Standing) (g : Group) → found (λ (s : Standing). rule_order s.key k) known ≡ Some s → s.missing ≡ Some g → (x : HeldRule) × (rule_at h k ≡ Some x) × (is_complete h x.policy x.rule ≡ false) × (missing_group h x.policy x.rule ≡ Some g)
+  pub waiting_rule : (s : KnownRule) (g : Group) → found (λ (s : KnownRule). rule_order s.key k) known ≡ Some s → s.missing ≡ Some g → (x : HeldRule) × (rule_at h k ≡ Some x) × (is_complete h x.policy x.rule ≡ false) × (missing_group h x.policy x.rule ≡ Some g)
   waiting_rule s g here some =
       let w = known_rule s here in
       (w.0, w.1, sym (complete_exactly h w.0.policy w.0.rule) ∙ ap is_none (w.2 ∙ some), w.2 ∙ some)
 
-  told_by_group : (s : Standing) (o : Option Group) (told : RuleState) → found (λ (s : Standing). rule_order s.key k) known ≡ Some s → s.missing ≡ o → TellsState o told → IsStateOf h k told
+  told_by_group : (s : KnownRule) (o : Option Group) (told : RuleState) → found (λ (s : KnownRule). rule_order s.key k) known ≡ Some s → s.missing ≡ o → TellsState o told → IsStateOf h k told
   told_by_group s None state.Complete here missing tells = complete_rule s here missing
   told_by_group s None (state.Waiting g) here missing tells = absurd tells
   told_by_group s None state.Absent here missing tells = absurd tells
@@ -68,7 +68,7 @@ module _ (h : HeldMaps) (k : RuleKey) (known : List Standing) (are : known ≡ s
   told_by_group s (Some g) state.Absent here missing tells = absurd tells
 
   -- what is known of the rules tells the state of each
-  pub state_told : (o : Option Standing) (told : RuleState) → found (λ (s : Standing). rule_order s.key k) known ≡ o → TellsRule o told → IsStateOf h k told
+  pub state_told : (o : Option KnownRule) (told : RuleState) → found (λ (s : KnownRule). rule_order s.key k) known ≡ o → TellsRule o told → IsStateOf h k told
   state_told None state.Complete here tells = absurd tells
   state_told None (state.Waiting g) here tells = absurd tells
   state_told None state.Absent here tells = absent_rule here

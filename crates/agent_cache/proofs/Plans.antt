@@ -7,10 +7,10 @@ use Rattle.watch_streams.specs.declared.message.Msg.{Msg}
 use Rattle.watch_streams.specs.HeldEvaluation.{HeldMaps}
 use Rattle.watch_streams.specs.RuleChanges.{AreRuleChanges}
 use Rattle.agent_cache.specs.declared.outlook.Outlook.{Outlook}
-use Rattle.agent_cache.specs.declared.plan.Plan.{Plan}
 use Rattle.agent_cache.specs.Cache.{IsPlan}
 use Rattle.agent_cache.specs.CacheData.{CacheData}
 use Rattle.agent_cache.specs.Outlook.{Foretells, IsOutlook}
+use Rattle.agent_cache.specs.PlanData.{PlanData}
 use Rattle.agent_cache.specs.Standing.{standings}
 
 -- it is the same whatever was held once the message was taken
@@ -23,11 +23,11 @@ outlook_of node s m old after outlook taken foretold = λ new also.
     }
 
 -- a message is planned by what it leads to
-pub plan_of : (s : Stream) (m : Msg) (cache : CacheData) (outlook : Outlook) (plan : Plan) → IsOutlook cache.node s m cache.held outlook → IsReady s m cache.held plan.ready → plan.standings ≡ outlook.standings → plan.changes ≡ outlook.changes → IsPlan s m cache plan
+pub plan_of : (s : Stream) (m : Msg) (cache : CacheData) (outlook : Outlook) (plan : PlanData) → IsOutlook cache.node s m cache.held outlook → IsReady s m cache.held plan.ready → plan.known ≡ outlook.standings.items → plan.changes ≡ outlook.changes → IsPlan s m cache plan
 plan_of s m cache outlook plan leads ready known changes =
     let foretold = leads (after_ready plan.ready cache.held) ready.leads in
     record {
-      fits = record { ready = ready.fits; standings = ap (λ v. v.items) known ∙ foretold.known };
+      fits = record { ready = ready.fits; known = known ∙ foretold.known };
       ready = ready;
       changes = subst (AreRuleChanges cache.node (maps_of cache.held) (maps_of (after_ready plan.ready cache.held))) (sym changes) foretold.changes;
     }

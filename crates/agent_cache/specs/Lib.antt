@@ -1,5 +1,7 @@
 pub mod Cache
 pub mod CacheData
+pub mod KnownRule
 pub mod Missing
 pub mod Outlook
+pub mod PlanData
 pub mod Standing

@@ -8,15 +8,15 @@ use Rattle.watch_streams.specs.HeldEvaluation.{HeldMaps, is_complete}
 use Rattle.watch_streams.specs.InForce.{HeldRule, held_rule_key, held_rules}
 use Rattle.agent_cache.specs.declared.standing.RuleState.{RuleState}
 use Rattle.agent_cache.specs.declared.standing.RuleState.TheVariants as state
-use Rattle.agent_cache.specs.declared.standing.Standing.{Standing}
+use Rattle.agent_cache.specs.KnownRule.{KnownRule}
 use Rattle.agent_cache.specs.Missing.{missing_group}
 
--- what is known of a rule: its key, and the group for which it waits
-abbrev pub standing : HeldMaps → HeldRule → Standing
+-- what is known of a rule, by the maps
+abbrev pub standing : HeldMaps → HeldRule → KnownRule
 standing h x = record { key = x.rule.key; missing = missing_group h x.policy x.rule }
 
 -- of all held rules, in the rule order
-abbrev pub standings : HeldMaps → List Standing
+abbrev pub standings : HeldMaps → List KnownRule
 standings h = map (standing h) (held_rules h)
 
 -- the state that a missing group tells
@@ -26,7 +26,7 @@ TellsState (Some g) (state.Waiting missing) = missing.now ≡ g
 TellsState group other = ⊥
 
 -- the state that is told by what is known of a rule
-abbrev pub TellsRule : Option Standing → RuleState → Type 0
+abbrev pub TellsRule : Option KnownRule → RuleState → Type 0
 TellsRule None state.Absent = Unit {0}
 TellsRule (Some known) told = TellsState known.missing told
 TellsRule None other = ⊥

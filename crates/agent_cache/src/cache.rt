@@ -129,11 +129,12 @@ impl Cache {
         ensures changes { IfOk result (AreRuleChanges self.old.node (maps_of self.old.held) (maps_of self.new.held)) }
         ensures err { OnErr result (self.new ≡ self.old) }
     {
+        let plan = self.plan(s, m)?;
         let Plan {
             changes,
             ready,
             standings,
-        } = self.plan(s, m)?;
+        } = plan;
         self.settle(ready, standings);
         Ok(changes)
     }

@@ -12,6 +12,7 @@ use cl_types::{Copies, Keyed, NoMemory, RuleKey, Stream, Text};
 use held_maps::{Held, resolving_stream};
 use label_select::{GroupKey, write_group};
 use std::alloc::Global;
+use std::marker::Model;
 use watch_streams::{NetPeers, NetPolicy, NetRule};
 
 fn title(alloc: Global, g: &GroupKey) -> Result<Text, NoMemory>
@@ -142,6 +143,14 @@ pub(crate) fn missing_of(
 pub(crate) struct Standing {
     pub(crate) key: RuleKey,
     pub(crate) missing: Option<GroupKey>,
+}
+
+impl Model for Standing {
+    ghost use Rattle.agent_cache.specs.KnownRule.{KnownRule};
+
+    ghost Value = { KnownRule };
+
+    ghost view = { λ s. record { key = s.key; missing = s.missing } };
 }
 
 impl Keyed for Standing {

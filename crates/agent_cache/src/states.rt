@@ -4,7 +4,7 @@ ghost use Rattle.cl_types.specs.Ascending.{Ascends};
 ghost use Rattle.cl_types.specs.RuleOrder.{rule_order};
 ghost use Rattle.held_maps.specs.Held.{maps_of};
 ghost use Rattle.watch_streams.specs.HeldEvaluation.{HeldMaps};
-ghost use Rattle.agent_cache.specs.declared.standing.Standing.{Standing};
+ghost use Rattle.agent_cache.specs.KnownRule.{KnownRule};
 ghost use Rattle.agent_cache.specs.Standing.{IsStateOf, TellsRule, TellsState, standing, standings};
 
 use crate::rules::{HeldRule, held_rules};
@@ -61,7 +61,7 @@ fn state_of<'a>(known: Option<&'a Standing>) -> RuleState<'a>
 
 /// The state of the rule with the key, by what is known of the rules.
 pub(crate) fn state_at<'a>(known: &'a [Standing], k: &RuleKey) -> RuleState<'a>
-    requires { Ascends (λ (s : Standing). s.key) rule_order known.now }
+    requires { Ascends (λ (s : KnownRule). s.key) rule_order known.now }
     ensures { (h : HeldMaps) → known.now ≡ standings h → IsStateOf h k.now result }
 {
     let found = find(known, k);

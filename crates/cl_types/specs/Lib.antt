@@ -19,6 +19,7 @@ pub mod ReadText
 pub mod Reading
 pub mod Rows
 pub mod RuleOrder
+pub mod SearchLaws
 pub mod Service
 pub mod SortedSetLaws
 pub mod Text

@@ -7,7 +7,7 @@ use Rattle.cluster_types.specs.Cluster.{ClusterData, HasNodesAlone, IsCluster}
 use Rattle.cluster_types.specs.Node.{NodeData}
 use Rattle.cluster_objects.specs.Apply.{fixed_nodes}
 use Rattle.group_index.specs.Index.{EntryData}
-use Rattle.ctl_core.specs.Sides.{IsSide}
+use Rattle.node_objects.specs.Sides.{IsSide}
 use Rattle.watch_streams.specs.declared.message.Msg.{Msg}
 use Rattle.watch_streams.specs.Ports.{PortState}
 use Rattle.node_streams.specs.declared.messages.Trio.{Trio}

@@ -37,9 +37,9 @@ use Rattle.group_index.specs.Changes.{before_namespace, before_pod}
 use Rattle.group_index.specs.Index.{EntryData, StandsFor}
 use Rattle.group_index.specs.Members.{members_of}
 use Rattle.watch_streams.specs.Projection.{policy_groups, rule_groups}
+use Rattle.touched_names.specs.Touching.{counting_group, groups_named, named_groups}
 use Rattle.ctl_core.specs.Following.{StandsBefore, namespace_in, pod_in}
 use Rattle.ctl_core.specs.Line.{other_differs}
-use Rattle.ctl_core.specs.Naming.{counting_group, groups_named, named_groups}
 use Rattle.ctl_core.specs.Uses.{CountsBefore, IsCounted, named_by, named_if_any, new_object, once, times, uses_of}
 use Rattle.ctl_core.proofs.Coming.{unless_ok}
 use Rattle.ctl_core.proofs.Counting.{total-append}
@@ -105,14 +105,14 @@ same_rules : (number : ℕ) (rules : List Rule) → flat_map (λ (r : Rule). rul
 same_rules number [] = refl
 same_rules number (r ∷ rules) = ap (λ gs. rule_groups r r.peers ++ gs) (same_rules number rules)
 
-numbered_names : (c : ClusterData) (p : PolicyData) → groups_named (numbered_policy c p) ≡ groups_named p
+pub numbered_names : (c : ClusterData) (p : PolicyData) → groups_named (numbered_policy c p) ≡ groups_named p
 numbered_names c p = by_kind (is_kube p.key.kind)
   where
     by_kind : (b : Bool) → groups_named (if b then p else record p { rules = map (in_tier (option_map_or (λ (t : TierData). t.priority) (tier_of_policy c p) 0)) p.rules }) ≡ groups_named p
     by_kind true = refl
     by_kind false = ap (λ gs. p.applied ++ gs) (same_rules (option_map_or (λ (t : TierData). t.priority) (tier_of_policy c p) 0) p.rules)
 
-numbered_key : (c : ClusterData) (p : PolicyData) → (numbered_policy c p).key ≡ p.key
+pub numbered_key : (c : ClusterData) (p : PolicyData) → (numbered_policy c p).key ≡ p.key
 numbered_key c p = by_kind (is_kube p.key.kind)
   where
     by_kind : (b : Bool) → (if b then p else record p { rules = map (in_tier (option_map_or (λ (t : TierData). t.priority) (tier_of_policy c p) 0)) p.rules }).key ≡ p.key

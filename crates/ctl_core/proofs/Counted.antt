@@ -13,47 +13,17 @@ use Rattle.cluster_types.specs.Policy.{PolicyData}
 use Rattle.cluster_types.specs.Whole.{AreWholePeers, IsWholeEgress, IsWholePeer, IsWholePolicy, IsWholeRule}
 use Rattle.group_index.specs.Index.{EntryData, StandsFor}
 use Rattle.watch_streams.specs.Projection.{all_pods, has_names, is_egress, peer_groups, policy_groups, rule_groups}
-use Rattle.ctl_core.specs.Naming.{AreGroups, counting_group, groups_named, named_groups}
-use Rattle.ctl_core.specs.Sides.{IsInUse, IsSide}
+use Rattle.touched_names.specs.Touching.{counting_group, groups_named, named_groups}
+use Rattle.ctl_core.specs.Naming.{AreGroups}
+use Rattle.node_objects.specs.Sides.{IsInUse, IsSide}
 use Rattle.cluster_types.specs.declared.change.Object.{Object}
 use Rattle.ctl_core.specs.Following.{IsMoved}
 use Rattle.ctl_core.specs.Uses.{CountsBefore, IsCounted, IsUsedLess, IsUsedMore, named_if_any, once, times, uses_of}
 use Rattle.ctl_core.proofs.Counting.{in_use, once_itself}
-use Rattle.ctl_core.proofs.InUse.{TextsDiffer, all_named, is_used}
+use Rattle.node_objects.specs.SideLaws.{TextsDiffer, all_append, all_flat, policy_forms}
+use Rattle.ctl_core.proofs.InUse.{all_named, is_used}
 
 -- ---- the groups that are named have the form of groups
-
-all_append : {T : Type 0} (P : T → Type 0) (xs ys : List T) → AllByRecursion P xs → AllByRecursion P ys → AllByRecursion P (xs ++ ys)
-all_append P [] ys all more = more
-all_append P (x ∷ xs) ys all more = (all.0, all_append P xs ys all.1 more)
-
-all_flat : {A T : Type 0} (P : T → Type 0) (f : A → List T) (xs : List A) → AllByRecursion (λ x. AllByRecursion P (f x)) xs → AllByRecursion P (flat_map f xs)
-all_flat P f [] all = tt
-all_flat P f (x ∷ xs) all = all_append P (f x) (flat_map f xs) all.0 (all_flat P f xs all.1)
-
-peer_forms : (p : Peer) → IsWholePeer p → AllByRecursion IsGroup (peer_groups p)
-peer_forms (peer.Group g) form = (form, tt)
-peer_forms (peer.Block b) form = tt
-peer_forms peer.Never form = tt
-
-rule_forms : (r : Rule) (peers : Option (List Peer)) → AreWholePeers peers → AllByRecursion IsGroup (rule_groups r peers)
-rule_forms r (Some peers) forms = all_flat IsGroup peer_groups peers (all_weaker IsWholePeer (λ p. AllByRecursion IsGroup (peer_groups p)) peer_forms peers forms)
-rule_forms r None forms = by_test (is_egress r.key.dir && has_names r.named)
-  where
-    of_all : IsGroup all_pods
-    of_all = record {
-      scope_form = record { need_forms = tt; needs_ascend = tt; values_ascend = tt };
-      pods_form = record { need_forms = tt; needs_ascend = tt; values_ascend = tt };
-    }
-
-    by_test : (b : Bool) → AllByRecursion IsGroup (if b then all_pods ∷ [] else [])
-    by_test true = (of_all, tt)
-    by_test false = tt
-
-policy_forms : (p : PolicyData) → IsWholePolicy p → AllByRecursion IsGroup (groups_named p)
-policy_forms p whole =
-    all_append IsGroup p.applied (policy_groups p) whole.applied
-    (all_flat IsGroup (λ (r : Rule). rule_groups r r.peers) p.rules (all_weaker IsWholeRule (λ (r : Rule). AllByRecursion IsGroup (rule_groups r r.peers)) (λ r forms. rule_forms r r.peers forms) p.rules whole.peers))
 
 egress_forms : (c : ClusterData) (e : EgressData) → IsWholeEgress e → AllByRecursion IsGroup (counting_group c e)
 egress_forms c e form = by_test (egress_counts c e)
@@ -79,9 +49,14 @@ all_used differ index forms (g ∷ groups) each held =
     one : 1 ≤ uses_of index g
     one = let itself = once_itself g in let all = held g in omega arith
 
+-- all groups that are named are in use where uses are counted
+pub counted_used : TextsDiffer → (c : ClusterData) (index : List EntryData) → IsCluster c → IsCounted c index → AllByRecursion (IsInUse index) (named_groups c)
+counted_used differ c index whole counted =
+    all_used differ index counted.groups (named_groups c) (named_forms c whole) (λ h. let same = counted.uses h in omega arith)
+
 pub counted_side : TextsDiffer → (c : ClusterData) (index : List EntryData) → IsCluster c → IsCounted c index → IsSide c index
 counted_side differ c index whole counted =
-    all_named c index counted.stands (all_used differ index counted.groups (named_groups c) (named_forms c whole) (λ h. let same = counted.uses h in omega arith))
+    all_named c index counted.stands (counted_used differ c index whole counted)
 
 -- nothing is named where there are no policies and no Egresses
 pub nothing_counted : (c : ClusterData) (index : List EntryData) → index ≡ [] → c.policies ≡ [] → c.egresses ≡ [] → IsCounted c index

@@ -18,11 +18,10 @@ use Rattle.cluster_types.specs.Egress.{EgressData}
 use Rattle.cluster_types.specs.Policy.{PolicyData}
 use Rattle.group_index.specs.Index.{EntryData, StandsFor, at_group, entry_of, entry_text, first_use, more_use, with_use}
 use Rattle.watch_streams.specs.Projection.{policy_groups}
-use Rattle.ctl_core.specs.Naming.{AreGroups, counting_group, groups_named, named_groups}
-use Rattle.ctl_core.specs.Sides.{IsInUse, IsSide, NamesInUse}
-
-abbrev pub TextsDiffer : Type 0
-TextsDiffer = (a b : Group) → IsGroup a → IsGroup b → group_text a ≡ group_text b → a ≡ b
+use Rattle.touched_names.specs.Touching.{counting_group, groups_named, named_groups}
+use Rattle.ctl_core.specs.Naming.{AreGroups}
+use Rattle.node_objects.specs.Sides.{IsInUse, IsSide, NamesInUse}
+use Rattle.node_objects.specs.SideLaws.{TextsDiffer, parts}
 
 -- ---- one group
 
@@ -36,10 +35,6 @@ is_used differ g form index groups some = by_entry (entry_of index g) refl some
         ap Some (differ e.group g (found_holds (at_group g) (λ (x : EntryData). IsGroup x.group) index e groups is) form (text_order_exact (group_text e.group) (group_text g) (found_at (at_group g) index e is)))
 
 -- ---- all that are named
-
-parts : {T : Type 0} (P : T → Type 0) (xs ys : List T) → AllByRecursion P (xs ++ ys) → AllByRecursion P xs × AllByRecursion P ys
-parts P [] ys all = (tt, all)
-parts P (x ∷ xs) ys all = let rest = parts P xs ys all.1 in ((all.0, rest.0), rest.1)
 
 each_part : {A T : Type 0} (P : T → Type 0) (f : A → List T) (xs : List A) → AllByRecursion P (flat_map f xs) → AllByRecursion (λ x. AllByRecursion P (f x)) xs
 each_part P f [] all = tt

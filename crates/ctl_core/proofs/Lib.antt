@@ -1,14 +1,13 @@
 mod Beginning
 mod Changing
 mod Coming
-mod Concerns
 mod Counted
 mod Counting
 mod InUse
-mod Indexes
 mod Keeping
 mod Leading
 mod OneKept
 mod Revising
 mod SoFar
 mod TakingBack
+mod Touches

@@ -7,7 +7,7 @@ use Rattle.cl_types.specs.Text.{text_order}
 use Rattle.cluster_types.specs.Cluster.{ClusterData, IsCluster}
 use Rattle.cluster_types.specs.Node.{NodeData}
 use Rattle.group_index.specs.Index.{EntryData}
-use Rattle.ctl_core.specs.Sides.{IsSide}
+use Rattle.node_objects.specs.Sides.{IsSide}
 use Rattle.ctl_core.specs.Uses.{IsCounted}
 use Rattle.watch_streams.specs.Ports.{PortState}
 use Rattle.node_streams.specs.declared.messages.Trio.{Trio}

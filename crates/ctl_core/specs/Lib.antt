@@ -1,10 +1,9 @@
 pub mod Controller
 pub mod Following
-pub mod Indexed
 pub mod Laws
 pub mod Line
 pub mod Naming
-pub mod Sides
 pub mod Telling
+pub mod Touched
 pub mod Trying
 pub mod Uses

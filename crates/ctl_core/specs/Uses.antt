@@ -12,7 +12,8 @@ use Rattle.cluster_types.specs.declared.change.Object.TheVariants as object
 use Rattle.cluster_types.specs.Cluster.{ClusterData}
 use Rattle.cluster_types.specs.Counts.{total}
 use Rattle.group_index.specs.Index.{EntryData, StandsFor, entry_of}
-use Rattle.ctl_core.specs.Naming.{AreGroups, counting_group, groups_named, named_groups}
+use Rattle.touched_names.specs.Touching.{counting_group, groups_named, named_groups}
+use Rattle.ctl_core.specs.Naming.{AreGroups}
 
 -- ---- counts
 

@@ -6,8 +6,7 @@ ghost use Rattle.ctl_core.specs.Line.{IsRevised, IsSpent, TakesLine};
 ghost use Rattle.stream_messages.specs.Messages.{snapshot};
 ghost use Rattle.node_streams.specs.Streams.{Begins, IsCut, TakesFrom, stream_of, streams_at};
 
-use crate::applying::apply_all;
-use crate::objects::objects_on;
+use crate::applying::apply_and_name;
 use crate::outcome::{Outcome, RejoinFault};
 use crate::side::Side;
 use crate::trying::foretold;
@@ -15,6 +14,7 @@ use crate::turns::tell_all;
 use cl_types::{List, NoMemory, Rev, Stream, Text};
 use cluster_objects::{Change, Cluster, ClusterRefusal};
 use group_index::GroupIndex;
+use node_objects::objects_on;
 use node_streams::{
     NodePorts, Trio, begin_at, cut_at, first_streams, is_listed, streams_at, take_at,
 };
@@ -168,12 +168,13 @@ impl<P: Port + Drop> Controller<P> {
     {
         let alloc = *self.nodes.allocator();
         self.spent = true;
-        apply_all(alloc, &mut self.next, changes)?;
+        let touched = apply_and_name(alloc, &mut self.next, changes)?;
         let rev = Rev(self.revision.0 + 1);
         let Ok(cut) = tell_all(
             alloc,
             &mut self.present,
             &self.next,
+            touched.as_slice(),
             changes,
             rev,
             &mut self.nodes,

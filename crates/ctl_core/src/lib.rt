@@ -5,13 +5,11 @@ mod applying;
 mod controller;
 mod following;
 mod laws;
-mod members;
 mod naming;
-mod objects;
 mod outcome;
 mod side;
-mod spans;
 mod telling;
+mod touched;
 mod trying;
 mod turns;
 

@@ -1,14 +1,14 @@
 //! The groups that an object names.
 ghost use Rattle.std.specs.Prelude.{◌≡◌, ◌++◌, ◌∷◌, [], cond, IfOk, OnOk, option_copied};
 ghost use Rattle.cluster_types.specs.Choice.{egress_counts};
-ghost use Rattle.ctl_core.specs.Naming.{counting_group, groups_named};
+ghost use Rattle.touched_names.specs.Touching.{counting_group, groups_named};
 ghost use Rattle.ctl_core.specs.Uses.{named_if_any, new_object};
 
-use crate::spans::egress_counts;
 use cl_types::{Copies, NoMemory};
 use cluster_objects::{Change, Cluster, Object};
 use cluster_types::{EgressObj, Policy};
 use label_select::GroupKey;
+use node_objects::egress_counts;
 use std::alloc::Global;
 use stream_messages::{copy_groups, policy_groups};
 

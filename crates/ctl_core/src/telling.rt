@@ -1,17 +1,22 @@
 //! The messages of a revision: what each live stream of each node is told.
-ghost use Rattle.std.specs.Prelude.{◌≡◌, map, if◌then◌else◌, Some, None, IfOk};
-ghost use Rattle.ctl_core.specs.Sides.{IsSide};
+ghost use Rattle.std.specs.Prelude.{◌≡◌, ◌++◌, map, if◌then◌else◌, Some, None, IfOk, OnOk};
+ghost use Rattle.node_objects.specs.Sides.{IsSide};
+ghost use Rattle.ctl_core.specs.Touched.{AreTouched};
 ghost use Rattle.stream_messages.specs.Messages.{delta};
+ghost use Rattle.touched_names.specs.Elsewhere.{changes_under};
+ghost use Rattle.touched_names.specs.Standing.{standing};
+ghost use Rattle.watch_streams.specs.Difference.{changed};
 ghost use Rattle.ctl_core.specs.Telling.{messages_of, named_stream, names_of, turn_of};
 
-use crate::objects::objects_on;
 use crate::outcome::StreamOf;
 use crate::side::Side;
-use cl_types::{Copies, NoMemory, Rev, Stream, Text};
+use cl_types::{Copies, List, NoMemory, Rev, Stream, Text};
+use node_objects::standing;
 use node_streams::{NodeMessages, NodePorts};
 use std::alloc::Global;
-use stream_messages::changes_between;
-use watch_streams::{Msg, Port};
+use stream_messages::{TitledName, push_change};
+use touched_names::touched_names_tell_all;
+use watch_streams::{Changes, Msg, Port, StreamChange, StreamName};
 
 /// The streams of a node, by name.
 #[derive(Debug, Drop)]
@@ -28,25 +33,68 @@ pub(crate) struct Turn {
     pub(crate) names: NodeNames,
 }
 
-// What a stream of a node is told at the revision.
+// Appends what changes on a stream of a node under the name.
+fn push_under(
+    changes: &mut Vec<StreamChange>,
+    old: &Side,
+    new: &Side,
+    s: Stream,
+    node: &Text,
+    name: &StreamName,
+) -> Result<(), NoMemory>
+    requires old { IsSide old.now.cluster.cluster old.now.groups }
+    requires new { IsSide new.now.cluster.cluster new.now.groups }
+    ensures { OnOk result (changes.new.items ≡ changes.old.items ++ changed (standing old.now.cluster.cluster s node.now name.now) (standing new.now.cluster.cluster s node.now name.now)) }
+{
+    let alloc = *changes.allocator();
+    let before = standing(alloc, &old.cluster, &old.groups, s, node, name)?;
+    let after = standing(alloc, &new.cluster, &new.groups, s, node, name)?;
+    push_change(changes, before.as_ref(), after.as_ref())?;
+    Ok(())
+}
+
+// What changes on a stream of a node under these names.
+fn changes_under(
+    alloc: Global,
+    old: &Side,
+    new: &Side,
+    touched: &[TitledName],
+    s: Stream,
+    node: &Text,
+) -> Result<Vec<StreamChange>, NoMemory>
+    requires old { IsSide old.now.cluster.cluster old.now.groups }
+    requires new { IsSide new.now.cluster.cluster new.now.groups }
+    ensures { IfOk result (λ changes. changes.items ≡ changes_under old.now.cluster.cluster new.now.cluster.cluster s node.now touched.now) }
+{
+    let mut changes = Vec::new(alloc);
+    for titled in touched {
+        push_under(&mut changes, old, new, s, node, titled.name())?;
+    }
+    Ok(changes)
+}
+
+// What a stream of a node is told at the revision, under whose names all changes are.
 fn delta(
     alloc: Global,
     old: &Side,
     new: &Side,
+    touched: &[TitledName],
     rev: Rev,
     s: Stream,
     node: &Text,
 ) -> Result<Msg, NoMemory>
     requires old { IsSide old.now.cluster.cluster old.now.groups }
     requires new { IsSide new.now.cluster.cluster new.now.groups }
+    requires touched { AreTouched touched.now old.now.cluster.cluster new.now.cluster.cluster }
     ensures { IfOk result (λ m. m ≡ delta old.now.cluster.cluster new.now.cluster.cluster rev s node.now) }
 {
     old.cluster.keeps_its_form();
     new.cluster.keeps_its_form();
     watch_streams::projections_are_maps();
-    let before = objects_on(alloc, &old.cluster, &old.groups, s, node)?;
-    let after = objects_on(alloc, &new.cluster, &new.groups, s, node)?;
-    Ok(Msg::Delta(rev, changes_between(alloc, before, after)?))
+    watch_streams::messages_name_once();
+    touched_names_tell_all();
+    let changes = changes_under(alloc, old, new, touched, s, node)?;
+    Ok(Msg::Delta(rev, Changes::of(List::of(changes))))
 }
 
 fn delta_if(
@@ -54,16 +102,18 @@ fn delta_if(
     alloc: Global,
     old: &Side,
     new: &Side,
+    touched: &[TitledName],
     rev: Rev,
     s: Stream,
     node: &Text,
 ) -> Result<Option<Msg>, NoMemory>
     requires old { IsSide old.now.cluster.cluster old.now.groups }
     requires new { IsSide new.now.cluster.cluster new.now.groups }
+    requires touched { AreTouched touched.now old.now.cluster.cluster new.now.cluster.cluster }
     ensures { IfOk result (λ m. m ≡ (if live then Some (delta old.now.cluster.cluster new.now.cluster.cluster rev s node.now) else None)) }
 {
     if live {
-        Ok(Some(delta(alloc, old, new, rev, s, node)?))
+        Ok(Some(delta(alloc, old, new, touched, rev, s, node)?))
     } else {
         Ok(None)
     }
@@ -73,11 +123,13 @@ fn node_messages<P: Port>(
     alloc: Global,
     old: &Side,
     new: &Side,
+    touched: &[TitledName],
     rev: Rev,
     n: &NodePorts<P>,
 ) -> Result<NodeMessages, NoMemory>
     requires old { IsSide old.now.cluster.cluster old.now.groups }
     requires new { IsSide new.now.cluster.cluster new.now.groups }
+    requires touched { AreTouched touched.now old.now.cluster.cluster new.now.cluster.cluster }
     ensures { IfOk result (λ m. m ≡ messages_of old.now.cluster.cluster new.now.cluster.cluster rev n.now) }
 {
     let node = n.node();
@@ -85,9 +137,36 @@ fn node_messages<P: Port>(
     let addresses = n.stream(Stream::Addresses).is_live();
     let applied = n.stream(Stream::Applied).is_live();
     Ok(NodeMessages {
-        policies: delta_if(policies, alloc, old, new, rev, Stream::Policies, node)?,
-        addresses: delta_if(addresses, alloc, old, new, rev, Stream::Addresses, node)?,
-        applied: delta_if(applied, alloc, old, new, rev, Stream::Applied, node)?,
+        policies: delta_if(
+            policies,
+            alloc,
+            old,
+            new,
+            touched,
+            rev,
+            Stream::Policies,
+            node,
+        )?,
+        addresses: delta_if(
+            addresses,
+            alloc,
+            old,
+            new,
+            touched,
+            rev,
+            Stream::Addresses,
+            node,
+        )?,
+        applied: delta_if(
+            applied,
+            alloc,
+            old,
+            new,
+            touched,
+            rev,
+            Stream::Applied,
+            node,
+        )?,
     })
 }
 
@@ -114,15 +193,17 @@ fn turn_of<P: Port>(
     alloc: Global,
     old: &Side,
     new: &Side,
+    touched: &[TitledName],
     rev: Rev,
     n: &NodePorts<P>,
 ) -> Result<Turn, NoMemory>
     requires old { IsSide old.now.cluster.cluster old.now.groups }
     requires new { IsSide new.now.cluster.cluster new.now.groups }
+    requires touched { AreTouched touched.now old.now.cluster.cluster new.now.cluster.cluster }
     ensures { IfOk result (λ turn. turn ≡ turn_of old.now.cluster.cluster new.now.cluster.cluster rev n.now) }
 {
     Ok(Turn {
-        messages: node_messages(alloc, old, new, rev, n)?,
+        messages: node_messages(alloc, old, new, touched, rev, n)?,
         names: names_of(n.node())?,
     })
 }
@@ -132,16 +213,18 @@ pub(crate) fn all_turns<P: Port>(
     alloc: Global,
     old: &Side,
     new: &Side,
+    touched: &[TitledName],
     rev: Rev,
     nodes: &[NodePorts<P>],
 ) -> Result<Vec<Turn>, NoMemory>
     requires old { IsSide old.now.cluster.cluster old.now.groups }
     requires new { IsSide new.now.cluster.cluster new.now.groups }
+    requires touched { AreTouched touched.now old.now.cluster.cluster new.now.cluster.cluster }
     ensures { IfOk result (λ all. all.items ≡ map (turn_of old.now.cluster.cluster new.now.cluster.cluster rev) nodes.now) }
 {
     let mut all = Vec::new(alloc);
     for n in nodes {
-        all.push(turn_of(alloc, old, new, rev, n)?)?;
+        all.push(turn_of(alloc, old, new, touched, rev, n)?)?;
     }
     Ok(all)
 }

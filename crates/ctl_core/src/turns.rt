@@ -3,6 +3,7 @@ ghost use Rattle.std.specs.Prelude.{◌≡◌, ◌≤◌, ◌<◌, ◌+◌, ◌+
 ghost use Rattle.cluster_types.specs.Limits.{max_nodes};
 ghost use Rattle.ctl_core.specs.Line.{LeavesNodes};
 ghost use Rattle.ctl_core.specs.Telling.{listed_cuts, messages_of, streams_cut};
+ghost use Rattle.ctl_core.specs.Touched.{AreTouched};
 ghost use Rattle.ctl_core.specs.Trying.{Leads};
 ghost use Rattle.ctl_core.specs.Uses.{IsCounted};
 ghost use Rattle.node_streams.specs.Telling.{AreTold, NodeIsTold, TellsTheLive, cuts_of};
@@ -15,6 +16,7 @@ use cl_types::{NoMemory, Rev};
 use cluster_objects::Change;
 use node_streams::{NodeCuts, NodePorts};
 use std::alloc::Global;
+use stream_messages::TitledName;
 use watch_streams::Port;
 
 // Lists the stream, where it was cut. The room for it is there.
@@ -59,12 +61,13 @@ fn tell_one<P: Port + Drop>(n: &mut NodePorts<P>, turn: Turn, listed: &mut Vec<S
 }
 
 /// Tells each live stream what changed on it at the revision that leads from the present side to the next one, and lists
-/// the streams that were cut. The present side takes the changes too. All that needs memory is done before the first
-/// message is offered.
+/// the streams that were cut. All that changed is under these names. The present side takes the changes too. All that
+/// needs memory is done before the first message is offered.
 pub(crate) fn tell_all<P: Port + Drop>(
     alloc: Global,
     present: &mut Side,
     next: &Side,
+    touched: &[TitledName],
     changes: &[Change],
     rev: Rev,
     nodes: &mut Vec<NodePorts<P>>,
@@ -72,6 +75,7 @@ pub(crate) fn tell_all<P: Port + Drop>(
     requires fixed { present.old.cluster.cluster.fixed ≡ true }
     requires present { IsCounted present.old.cluster.cluster present.old.groups }
     requires next { IsCounted next.now.cluster.cluster next.now.groups }
+    requires touched { AreTouched touched.now present.old.cluster.cluster next.now.cluster.cluster }
     requires few { length nodes.old.items ≤ max_nodes }
     ensures told { IfOk result (λ _. AreTold P.state P.same (messages_of present.old.cluster.cluster next.now.cluster.cluster rev) nodes.old.items nodes.new.items) }
     ensures listed { IfOk result (λ listed. listed.items ≡ streams_cut nodes.old.items nodes.new.items) }
@@ -82,9 +86,10 @@ pub(crate) fn tell_all<P: Port + Drop>(
 {
     present.has_all_in_use();
     next.has_all_in_use();
-    let turns = all_turns(alloc, present, next, rev, nodes.as_slice())?;
+    let turns = all_turns(alloc, present, next, touched, rev, nodes.as_slice())?;
     let mut listed = Vec::with_capacity(alloc, 3 * turns.len())?;
-    apply_all(alloc, present, changes)?;
+    let mut named = Vec::new(alloc);
+    apply_all(alloc, present, changes, &mut named)?;
     let mut i = 0;
     for turn in turns {
         tell_one(&mut nodes[i], turn, &mut listed);

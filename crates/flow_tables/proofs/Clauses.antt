@@ -12,7 +12,7 @@ use Rattle.std.proofs.lemmas.Bool.Decides.{nat_tests}
 use Rattle.std.proofs.lemmas.Cmp.{on_total, then_total, nat_cmp_total}
 use Rattle.std.proofs.lemmas.List.Folds.{list_any_at, list_any_none}
 use Rattle.std.proofs.lemmas.Option.{slice_get-get_or, slice_get_within, get_or_from_slice_get}
-use Rattle.cl_types.proofs.AscendingLists.{ascends_between}
+use Rattle.cl_types.specs.SearchLaws.{ascends_between}
 use Rattle.cl_types.specs.Ascending.{Ascends, IsPlace, IsGap}
 use Rattle.flow_entries.specs.declared.flow.Clause.{Clause}
 use Rattle.flow_tables.specs.Index.{clause_order}

@@ -28,7 +28,7 @@ use Rattle.cluster_types.specs.Node.{NamespaceData}
 use Rattle.cluster_types.specs.Pod.{PodData, counts, has_address}
 use Rattle.group_index.specs.Changes.{at_namespace, at_pod, before_namespace, before_pod, namespaces_before, pods_before}
 use Rattle.group_index.specs.Members.{MemberData, by_address, member_of, members_of}
-use Rattle.group_index.specs.Settled.{addresses_for, addresses_if, addresses_of, at_address, is_concerned, is_stray, namespace_addresses, pod_addresses}
+use Rattle.group_index.specs.Settled.{addresses_if, addresses_of, addresses_where, at_address, contains, follows_labels, has_either, is_concerned, is_selector, is_stray, namespace_addresses, pod_addresses, pod_now}
 use Rattle.group_index.proofs.Settling.{AreAlike, address_of}
 
 and_false : (b : Bool) → b && false ≡ false
@@ -151,22 +151,42 @@ module _ (c : ClusterData) (whole : IsCluster c) (g : Group) (a : Addr) where
       all_at (λ (p : PodData). p.key) pod_order_total key (λ p. test_at p ≡ false) c.pods whole.pods_ascend
       (λ p is. fails p (sym (ap (λ o. is_among a (addresses_of o)) is) ∙ off))
 
-  find_before : (old new : Option PodData) → is_among a (pod_addresses old new c.pods) ≡ false → find test_at (pods_before old new c.pods) ≡ find test_at c.pods
+  find_before : (old new : Option PodData) → is_among a (pod_addresses old (pod_now old new c.pods)) ≡ false → find test_at (pods_before old new c.pods) ≡ find test_at c.pods
   find_before (Some old) new off =
       let both = neither (is_among a old.addresses) _ (sym (list_any-append (λ b. addr_eq b a) old.addresses (addresses_of (found (at_pod old.key) c.pods))) ∙ off) in
       find_put (at_pod old.key) test_at old c.pods (fails old both.0) (others_fail old.key both.1)
   find_before None (Some new) off = find_without (at_pod new.key) test_at c.pods (others_fail new.key off)
   find_before None None off = refl
 
--- every group is asked at the same addresses
-same_for : (addresses : List Addr) (scope : Scope) → addresses_for addresses addresses scope ≡ addresses
-same_for addresses (Namespace name) = refl
-same_for addresses (Namespaces selector) = refl
+  -- a group has no member of a pod that it doesn't contain
+  out : (p : PodData) → in_group c g p ≡ false → test_at p ≡ false
+  out p off = ap (λ b. b && has_address a p) off
 
-pub pod_leaves : (c : ClusterData) → IsCluster c → (old new : Option PodData) → AreAlike (pod_addresses old new c.pods) (pod_addresses old new c.pods) (before_pod old new c) c
+  all_out : (key : PodKey) → contains c g (found (at_pod key) c.pods) ≡ false → AllByRecursion (λ p. at_pod key p ≡ Equal → test_at p ≡ false) c.pods
+  all_out key off =
+      all_at (λ (p : PodData). p.key) pod_order_total key (λ p. test_at p ≡ false) c.pods whole.pods_ascend
+      (λ p is. out p (sym (ap (contains c g) is) ∙ off))
+
+  -- a group that contains neither the pod as it was nor the pod as it is has the same members
+  find_neither : (old new : Option PodData) → has_either c old (pod_now old new c.pods) g ≡ false → find test_at (pods_before old new c.pods) ≡ find test_at c.pods
+  find_neither (Some old) new off =
+      let both = neither (in_group c g old) (contains c g (found (at_pod old.key) c.pods)) off in
+      find_put (at_pod old.key) test_at old c.pods (out old both.0) (all_out old.key both.1)
+  find_neither None (Some new) off = find_without (at_pod new.key) test_at c.pods (all_out new.key off)
+  find_neither None None off = refl
+
+  find_same : (old new : Option PodData) → is_among a (addresses_where (has_either c old (pod_now old new c.pods) g) (pod_addresses old (pod_now old new c.pods))) ≡ false
+      → find test_at (pods_before old new c.pods) ≡ find test_at c.pods
+  find_same old new = by_test (has_either c old (pod_now old new c.pods) g) refl
+    where
+      by_test : (b : Bool) → has_either c old (pod_now old new c.pods) g ≡ b → is_among a (addresses_where b (pod_addresses old (pod_now old new c.pods))) ≡ false → find test_at (pods_before old new c.pods) ≡ find test_at c.pods
+      by_test true is off = find_before old new off
+      by_test false is off = find_neither old new is
+
+pub pod_leaves : (c : ClusterData) → IsCluster c → (old new : Option PodData) → AreAlike (has_either c old (pod_now old new c.pods)) (pod_addresses old (pod_now old new c.pods)) (before_pod old new c) c
 pod_leaves c whole old new = λ g a off.
     first_member (before_pod old new c) g a
-    ∙ (ap (option_map (λ p. member_of p a)) (find_before c whole g a old new (sym (ap (is_among a) (same_for (pod_addresses old new c.pods) g.scope)) ∙ off)) ∙ sym (first_member c g a))
+    ∙ (ap (option_map (λ p. member_of p a)) (find_same c whole g a old new off) ∙ sym (first_member c g a))
 
 -- ---- a namespace that changed
 
@@ -219,12 +239,12 @@ module _ (c : ClusterData) (whole : IsCluster c) (old : Option NamespaceData) (n
         ap (λ s. counts p && (in_scope s p.key.namespace (ns_labels before p.key.namespace) && selects g.pods p.labels)) is
         ∙ sym (ap (λ s. counts p && (in_scope s p.key.namespace (ns_labels c p.key.namespace) && selects g.pods p.labels)) is)
 
-    find_of_scope : (s : Scope) → g.scope ≡ s → is_among a (addresses_for [] (namespace_addresses old name c.pods) s) ≡ false
+    find_of_scope : (s : Scope) → g.scope ≡ s → is_among a (addresses_where (is_selector s) (namespace_addresses old name c.pods)) ≡ false
         → find (λ p. in_group before g p && has_address a p) c.pods ≡ find (λ p. in_group c g p && has_address a p) c.pods
     find_of_scope (Namespace named) is off = ap (λ (test : PodData → Bool). find (λ p. test p && has_address a p) c.pods) (λ i p. same_scope named is p i)
     find_of_scope (Namespaces selector) is off = same_find c.pods off
 
-pub namespace_leaves : (c : ClusterData) → IsCluster c → (old : Option NamespaceData) (name : List ℕ) → AreAlike [] (namespace_addresses old name c.pods) (before_namespace old name c) c
+pub namespace_leaves : (c : ClusterData) → IsCluster c → (old : Option NamespaceData) (name : List ℕ) → AreAlike follows_labels (namespace_addresses old name c.pods) (before_namespace old name c) c
 namespace_leaves c whole old name = λ g a off.
     first_member (before_namespace old name c) g a
     ∙ (ap (option_map (λ p. member_of p a)) (find_of_scope c whole old name g a g.scope refl off) ∙ sym (first_member c g a))

@@ -1,9 +1,9 @@
 pub mod Gathering
 pub mod Sorting
-pub mod Places
 pub mod Uses
 pub mod Turns
 pub mod Unchanged
+pub mod Stretches
 pub mod Settling
 pub mod Concerns
 pub mod Standing

@@ -1,9 +1,12 @@
 -- Members that move at some addresses: what is found at each address, and what changes.
-use Rattle.std.proofs.Common.{◌≡◌, ◌<◌, ◌≤◌, ◌+◌, ◌++◌, ℕ, suc, List, [], ◌∷◌, length, get_or, set, drop, take, Bool, true, false, ◌||◌, not, Option, Some, None, if◌then◌else◌, refl, sym, ap, subst, ◌∙◌, arith}
+use Rattle.std.proofs.Common.{◌≡◌, ◌<◌, ◌+◌, ◌++◌, ℕ, zero, suc, List, [], ◌∷◌, length, get_or, set, drop, take, Bool, true, false, ◌||◌, not, Option, Some, None, if◌then◌else◌, refl, sym, ap, subst, ◌∙◌, arith}
 use Rattle.std.specs.List.{AllByRecursion, flat_map}
-use Rattle.std.proofs.lemmas.List.{drop_more, length-append, take_more}
+use Rattle.std.proofs.lemmas.Grind.{flat_map-append}
+use Rattle.std.proofs.lemmas.List.{append-nil, append_assoc, drop_more, length-append, length-take-le, take_more}
+use Rattle.std.proofs.lemmas.List.Elements.{All-from_recursion}
 use Rattle.std.specs.Option.{option_to_list, unwrap_or}
 use Rattle.std.specs.Ordering.{is_eq}
+use Rattle.std.specs.declared.cmp.Ordering.TheVariants.{Less}
 use Rattle.cl_types.specs.declared.addr.Addr.{Addr}
 use Rattle.cl_types.specs.Addr.{addr_eq, addr_order, addr_order_total}
 use Rattle.cl_types.specs.AddrEq.{addr_eq-one, addr_eq_by_order}
@@ -11,15 +14,18 @@ use Rattle.cl_types.specs.Ascending.{found}
 use Rattle.cl_types.specs.AscendingLaws.{ascends_filter, ascends_put, ascends_sorted, ascends_without, equal_maps, found_at, found_filter, found_holds, found_put, found_without, passed}
 use Rattle.cl_types.specs.ListLaws.{all_weaker}
 use Rattle.cl_types.specs.OrderLaws.{addr_order_exact}
+use Rattle.cl_types.specs.Text.{text_order}
 use Rattle.cluster_objects.specs.Addresses.{is_among}
 use Rattle.cluster_types.specs.Cluster.{ClusterData}
 use Rattle.label_select.specs.Group.{Group}
+use Rattle.group_index.specs.declared.draft.Draft.{Draft}
+use Rattle.group_index.specs.declared.draft.Drafts.{Drafts}
 use Rattle.group_index.specs.ChangeLaws.{found_member, members_ascend}
-use Rattle.group_index.specs.Changes.{at_cluster, change_if_any, entry_at, group_change, has_member, members_without}
-use Rattle.group_index.specs.Index.{EntryData, StandsFor}
+use Rattle.group_index.specs.Changes.{at_cluster, change_at, change_if_any, entry_at, group_change, has_member, members_without}
+use Rattle.group_index.specs.Index.{EntryData, IsIndex, StandsFor, entry_text}
 use Rattle.group_index.specs.Members.{MemberData, by_address, members_of}
-use Rattle.group_index.specs.Settled.{AreDrafts, AscendByAddress, DiffersAt, MovesAt, addresses_for, at_address, here_at, picked, settled, settled_by, with_at}
-use Rattle.group_index.proofs.Unchanged.{all_there}
+use Rattle.group_index.specs.Settled.{AreDrafts, AscendByAddress, DiffersAt, MovesAt, Stays, addresses_where, at_address, draft_at, here_at, picked, settled_at, settled_by, with_at, with_members}
+use Rattle.group_index.proofs.Unchanged.{all_there, unchanged}
 
 abbrev pub address_of : MemberData → Addr
 address_of m = m.address
@@ -146,65 +152,139 @@ change_picked g addresses old new d =
 
 -- ---- drafts
 
-pub drafts_more : (c : ClusterData) (ds : List (Option (List MemberData))) (es : List EntryData) (d : Option (List MemberData)) (e : EntryData)
-    → AreDrafts c ds es → unwrap_or d e.members ≡ members_of c e.group → AreDrafts c (ds ++ d ∷ []) (es ++ e ∷ [])
-drafts_more c [] [] d e all is = (is, tt)
-drafts_more c [] (x ∷ es) d e all is = absurd all
-drafts_more c (x ∷ ds) [] d e all is = absurd all
-drafts_more c (x ∷ ds) (y ∷ es) d e all is = (all.0, drafts_more c ds es d e all.1 is)
+all_more : {T : Type 0} (P : T → Type 0) (xs : List T) (x : T) → AllByRecursion P xs → P x → AllByRecursion P (xs ++ x ∷ [])
+all_more P [] x all h = (h, tt)
+all_more P (y ∷ ys) x all h = (all.0, all_more P ys x all.1 h)
 
-pub drafts_next : (c : ClusterData) (ds : List (Option (List MemberData))) (index : List EntryData) (i : ℕ) (d : Option (List MemberData)) (e : EntryData)
-    → i < length index → e ≡ get_or index i e → AreDrafts c ds (take i index) → unwrap_or d e.members ≡ members_of c e.group → AreDrafts c (ds ++ d ∷ []) (take (i + 1) index)
-drafts_next c ds index i d e h at_i all is =
-    subst (AreDrafts c (ds ++ d ∷ [])) (sym (take_more index i e h ∙ ap (λ x. take i index ++ x ∷ []) (sym at_i))) (drafts_more c ds (take i index) d e all is)
+pub all_less : {T : Type 0} (P : T → Type 0) (xs : List T) (x : T) → AllByRecursion P (xs ++ x ∷ []) → AllByRecursion P xs × P x
+all_less P [] x all = (tt, all.0)
+all_less P (y ∷ ys) x all = let later = all_less P ys x all.1 in ((all.0, later.0), later.1)
 
-pub drafts_settled : (c : ClusterData) (ds : List (Option (List MemberData))) (es : List EntryData) → AreDrafts c ds es → settled_by ds es ≡ at_cluster c es
+pub at_place : {T : Type 0} (P : T → Type 0) (xs : List T) (i : ℕ) (x : T) → AllByRecursion P xs → i < length xs → x ≡ get_or xs i x → P x
+at_place P xs i x all h is = subst P (sym is) (All-from_recursion P xs all i x h)
+
+-- the draft at the end is settled first
+pub settled_last : (ds : List Draft) (d : Draft) (es : List EntryData) → settled_by (ds ++ d ∷ []) es ≡ settled_by ds (settled_at d.place d.members es)
+settled_last [] d es = refl
+settled_last (x ∷ ds) d es = ap (settled_at x.place x.members) (settled_last ds d es)
+
+settled_behind : (first : List EntryData) (ms : List MemberData) (e : EntryData) (rest : List EntryData) → settled_at (length first) ms (first ++ e ∷ rest) ≡ first ++ with_members ms e ∷ rest
+settled_behind [] ms e rest = refl
+settled_behind (x ∷ first) ms e rest = ap (λ es. x ∷ es) (settled_behind first ms e rest)
+
+pub settled_here : (i : ℕ) (ms : List MemberData) (es : List EntryData) (x y : EntryData) → i < length es → x ≡ get_or es i x → y ≡ with_members ms x → set es i y ≡ settled_at i ms es
+settled_here i ms [] x y h here is = absurd (omega arith)
+settled_here zero ms (e ∷ es) x y h here is = ap (λ z. z ∷ es) (is ∙ ap (with_members ms) here)
+settled_here (suc i) ms (e ∷ es) x y h here is = ap (λ zs. e ∷ zs) (settled_here i ms es x y (omega arith) here is)
+
+-- the groups stay in order
+later_stay : (t : List ℕ) (i : ℕ) (ms : List MemberData) (es : List EntryData) → AllByRecursion (λ y. text_order t (entry_text y) ≡ Less) es → AllByRecursion (λ y. text_order t (entry_text y) ≡ Less) (settled_at i ms es)
+later_stay t i ms [] all = tt
+later_stay t zero ms (e ∷ es) all = all
+later_stay t (suc i) ms (e ∷ es) all = (all.0, later_stay t i ms es all.1)
+
+at_ascends : (i : ℕ) (ms : List MemberData) (es : List EntryData) → IsIndex es → IsIndex (settled_at i ms es)
+at_ascends i ms [] up = tt
+at_ascends zero ms (e ∷ es) up = up
+at_ascends (suc i) ms (e ∷ es) up = (later_stay (entry_text e) i ms es up.0, at_ascends i ms es up.1)
+
+pub settled_ascends : (ds : List Draft) (es : List EntryData) → IsIndex es → IsIndex (settled_by ds es)
+settled_ascends [] es up = up
+settled_ascends (d ∷ ds) es up = at_ascends d.place d.members (settled_by ds es) (settled_ascends ds es up)
+
+at_more : (c : ClusterData) (first : List EntryData) (e : EntryData) (rest : List EntryData) → at_cluster c first ++ entry_at c e ∷ rest ≡ at_cluster c (first ++ e ∷ []) ++ rest
 unfolding at_cluster
-drafts_settled c [] [] all = refl
-drafts_settled c [] (x ∷ es) all = absurd all
-drafts_settled c (x ∷ ds) [] all = absurd all
-drafts_settled c (d ∷ ds) (e ∷ es) all =
-    ap (λ ms. record { group = e.group; uses = e.uses; members = ms } ∷ settled_by ds es) all.0
-    ∙ ap (λ rest. entry_at c e ∷ rest) (drafts_settled c ds es all.1)
+at_more c [] e rest = refl
+at_more c (x ∷ first) e rest = ap (λ es. entry_at c x ∷ es) (at_more c first e rest)
 
-drafts_length : (c : ClusterData) (ds : List (Option (List MemberData))) (es : List EntryData) → AreDrafts c ds es → length ds ≡ length es
-drafts_length c [] [] all = refl
-drafts_length c [] (x ∷ es) all = absurd all
-drafts_length c (x ∷ ds) [] all = absurd all
-drafts_length c (d ∷ ds) (e ∷ es) all = ap suc (drafts_length c ds es all.1)
+at_none : (c : ClusterData) → at_cluster c [] ≡ []
+unfolding at_cluster
+at_none c = refl
 
-pub drafts_enough : (c : ClusterData) (ds : List (Option (List MemberData))) (es : List EntryData) → AreDrafts c ds es → length ds ≤ length es
-drafts_enough c ds es all = omega (arith, drafts_length c ds es all)
+module _ (c : ClusterData) where
+  pub drafts_none : (d : Drafts) → d.changes.items ≡ [] → d.drafts.items ≡ [] → AreDrafts c [] d
+  drafts_none d changes drafts = record {
+    changes = changes;
+    within = subst (AllByRecursion (λ (draft : Draft). draft.place < 0)) (sym drafts) tt;
+    settle = λ rest. ap (λ ds. settled_by ds rest) drafts ∙ sym (ap (λ es. es ++ rest) (at_none c));
+  }
 
--- the last draft settled first
-pub settled_last : (ds : List (Option (List MemberData))) (d : Option (List MemberData)) (es : List EntryData) (x : EntryData) → length ds < length es
-    → settled_by (ds ++ d ∷ []) es ≡ settled_by ds (set es (length ds) (settled d (get_or es (length ds) x)))
-settled_last [] d [] x h = absurd (omega arith)
-settled_last [] d (e ∷ es) x h = refl
-settled_last (y ∷ ds) d [] x h = absurd (omega arith)
-settled_last (y ∷ ds) d (e ∷ es) x h = ap (λ rest. settled y e ∷ rest) (settled_last ds d es x (omega arith))
+  drafts_within : (first : List EntryData) (ds : List Draft) (e : EntryData) (o : Option (List MemberData)) → AllByRecursion (λ (d : Draft). d.place < length first) ds
+      → AllByRecursion (λ (d : Draft). d.place < length (first ++ e ∷ [])) (ds ++ draft_at (length first) o)
+  drafts_within first ds e o all =
+      let more : length (first ++ e ∷ []) ≡ length first + 1 = length-append first (e ∷ []) in
+      let weaker : AllByRecursion (λ (d : Draft). d.place < length (first ++ e ∷ [])) ds =
+      all_weaker (λ (d : Draft). d.place < length first) (λ (d : Draft). d.place < length (first ++ e ∷ [])) (λ d h. omega (arith, more, h)) ds all in
+      by_draft o more weaker
+    where
+      by_draft : (o : Option (List MemberData)) → length (first ++ e ∷ []) ≡ length first + 1 → AllByRecursion (λ (d : Draft). d.place < length (first ++ e ∷ [])) ds
+          → AllByRecursion (λ (d : Draft). d.place < length (first ++ e ∷ [])) (ds ++ draft_at (length first) o)
+      by_draft None more weaker = subst (AllByRecursion (λ (d : Draft). d.place < length (first ++ e ∷ []))) (sym (append-nil ds)) weaker
+      by_draft (Some ms) more weaker = all_more (λ (d : Draft). d.place < length (first ++ e ∷ [])) ds (record { place = length first; members = ms }) weaker (omega (arith, more))
 
-pub settled_next : (ds : List (Option (List MemberData))) (d : Option (List MemberData)) (es : List EntryData) (i : ℕ) (x y : EntryData) → length ds < length es → i ≡ length ds
-    → x ≡ get_or es i x → y ≡ settled d x → settled_by ds (set es i y) ≡ settled_by (ds ++ d ∷ []) es
-settled_next ds d es i x y h last at_i is =
-    ap (λ v. settled_by ds (set es i v)) (is ∙ ap (settled d) at_i)
-    ∙ (ap (λ k. settled_by ds (set es k (settled d (get_or es k x)))) last ∙ sym (settled_last ds d es x h))
+  drafts_lead : (first : List EntryData) (ds : List Draft) (e : EntryData) (o : Option (List MemberData)) → unwrap_or o e.members ≡ members_of c e.group
+      → ((rest : List EntryData) → settled_by ds (first ++ rest) ≡ at_cluster c first ++ rest)
+      → (rest : List EntryData) → settled_by (ds ++ draft_at (length first) o) ((first ++ e ∷ []) ++ rest) ≡ at_cluster c (first ++ e ∷ []) ++ rest
+  drafts_lead first ds e None is lead rest =
+      ap (λ xs. settled_by xs ((first ++ e ∷ []) ++ rest)) (append-nil ds)
+      ∙ (ap (settled_by ds) (append_assoc first (e ∷ []) rest)
+      ∙ (lead (e ∷ rest)
+      ∙ (ap (λ ms. at_cluster c first ++ with_members ms e ∷ rest) is ∙ at_more c first e rest)))
+  drafts_lead first ds e (Some ms) is lead rest =
+      ap (settled_by (ds ++ draft_at (length first) (Some ms))) (append_assoc first (e ∷ []) rest)
+      ∙ (settled_last ds (record { place = length first; members = ms }) (first ++ e ∷ rest)
+      ∙ (ap (settled_by ds) (settled_behind first ms e rest)
+      ∙ (lead (with_members ms e ∷ rest)
+      ∙ (ap (λ ms. at_cluster c first ++ with_members ms e ∷ rest) is ∙ at_more c first e rest))))
 
--- a draft that was the last has a group
-pub room_left : (all ds : List (Option (List MemberData))) (d : Option (List MemberData)) (n : ℕ) → all ≡ ds ++ d ∷ [] → length all ≤ n → length ds < n
-room_left all ds d n is h =
-    let one : length all ≡ length ds + 1 = ap length is ∙ length-append ds (d ∷ []) in
-    omega (arith, one, h)
+  -- one group more, with its draft and its change
+  pub drafts_more : (first : List EntryData) (d new : Drafts) (e : EntryData) (o : Option (List MemberData)) → unwrap_or o e.members ≡ members_of c e.group
+      → new.drafts.items ≡ d.drafts.items ++ draft_at (length first) o → new.changes.items ≡ d.changes.items ++ change_at c e → AreDrafts c first d → AreDrafts c (first ++ e ∷ []) new
+  drafts_more first d new e o is drafts changes h = record {
+    changes =
+        changes
+        ∙ (ap (λ xs. xs ++ change_at c e) h.changes
+        ∙ sym (flat_map-append (change_at c) first (e ∷ []) ∙ ap (λ ys. flat_map (change_at c) first ++ ys) (append-nil (change_at c e))));
+    within = subst (AllByRecursion (λ (draft : Draft). draft.place < length (first ++ e ∷ []))) (sym drafts) (drafts_within first d.drafts.items e o h.within);
+    settle = λ rest. ap (λ ds. settled_by ds ((first ++ e ∷ []) ++ rest)) drafts ∙ drafts_lead first d.drafts.items e o is h.settle rest;
+  }
+
+  -- one group more, whose members stay
+  pub drafts_same : (first : List EntryData) (d : Drafts) (e : EntryData) → Stays c e → AreDrafts c first d → AreDrafts c (first ++ e ∷ []) d
+  drafts_same first d e stays h = drafts_more first d d e None stays (sym (append-nil d.drafts.items)) (unchanged d.changes.items e.group e.members (members_of c e.group) stays) h
+
+  -- more groups whose members stay
+  pub drafts_pass : (first : List EntryData) (d : Drafts) (es : List EntryData) → AllByRecursion (Stays c) es → AreDrafts c first d → AreDrafts c (first ++ es) d
+  drafts_pass first d [] all h = subst (λ xs. AreDrafts c xs d) (sym (append-nil first)) h
+  drafts_pass first d (e ∷ es) all h = subst (λ xs. AreDrafts c xs d) (append_assoc first (e ∷ []) es) (drafts_pass (first ++ e ∷ []) d es all.1 (drafts_same first d e all.0 h))
+
+  -- the group at the next place
+  pub drafts_next : (index : List EntryData) (i : ℕ) (e : EntryData) (d new : Drafts) → i < length index → e ≡ get_or index i e
+      → ((first : List EntryData) → length first ≡ i → AreDrafts c first d → AreDrafts c (first ++ e ∷ []) new) → AreDrafts c (take i index) d → AreDrafts c (take (i + 1) index) new
+  drafts_next index i e d new h here step before =
+      subst (λ first. AreDrafts c first new) (sym (take_more index i e h ∙ ap (λ x. take i index ++ x ∷ []) (sym here)))
+      (step (take i index) (length-take-le i index (omega arith)) before)
+
+  pub drafts_settled : (index : List EntryData) (d : Drafts) → AreDrafts c index d → settled_by d.drafts.items index ≡ at_cluster c index
+  drafts_settled index d h =
+      ap (settled_by d.drafts.items) (sym (append-nil index)) ∙ (h.settle [] ∙ append-nil (at_cluster c index))
 
 -- ---- from one cluster to another
 
 -- at every other address the groups have the same members at both clusters
-abbrev pub AreAlike : List Addr → List Addr → ClusterData → ClusterData → Type 0
-AreAlike named others before c = (g : Group) (a : Addr) → is_among a (addresses_for named others g.scope) ≡ false → found (at_address a) (members_of before g) ≡ found (at_address a) (members_of c g)
+abbrev pub AreAlike : (Group → Bool) → List Addr → ClusterData → ClusterData → Type 0
+AreAlike concerns addresses before c = (g : Group) (a : Addr) → is_among a (addresses_where (concerns g) addresses) ≡ false → found (at_address a) (members_of before g) ≡ found (at_address a) (members_of c g)
 
-pub moves : (named others : List Addr) (before c : ClusterData) → AreAlike named others before c → (index : List EntryData) → StandsFor index before → AllByRecursion (MovesAt named others c) index
-moves named others before c alike index stands =
-    all_weaker (λ (e : EntryData). e.members ≡ members_of before e.group) (MovesAt named others c)
-    (λ e is. subst (λ ms. DiffersAt (addresses_for named others e.group.scope) ms (members_of c e.group)) (sym is)
+pub moves : (concerns : Group → Bool) (addresses : List Addr) (before c : ClusterData) → AreAlike concerns addresses before c → (index : List EntryData) → StandsFor index before → AllByRecursion (MovesAt concerns addresses c) index
+moves concerns addresses before c alike index stands =
+    all_weaker (λ (e : EntryData). e.members ≡ members_of before e.group) (MovesAt concerns addresses c)
+    (λ e is. subst (λ ms. DiffersAt (addresses_where (concerns e.group) addresses) ms (members_of c e.group)) (sym is)
     (record { old_ascends = members_ascend before e.group; new_ascends = members_ascend c e.group; alike = alike e.group }))
     index stands
+
+-- a group that a change doesn't concern stays
+pub unconcerned : (concerns : Group → Bool) (addresses : List Addr) (c : ClusterData) (e : EntryData) → concerns e.group ≡ false → MovesAt concerns addresses c e → Stays c e
+unconcerned concerns addresses c e off moves = differs_nowhere e.members (members_of c e.group) (subst (λ b. DiffersAt (addresses_where b addresses) e.members (members_of c e.group)) off moves)
+
+pub concerned : (concerns : Group → Bool) (addresses : List Addr) (c : ClusterData) (e : EntryData) → concerns e.group ≡ true → MovesAt concerns addresses c e → DiffersAt addresses e.members (members_of c e.group)
+concerned concerns addresses c e on moves = subst (λ b. DiffersAt (addresses_where b addresses) e.members (members_of c e.group)) on moves

@@ -1,13 +1,13 @@
 -- The groups that are in use, with their members (this project's own; Antrea keeps such an index of groups and pods).
-use Rattle.std.specs.Prelude.{◌≡◌, Bool, ◌≢◌, ℕ, ◌+◌, ◌-◌, ◌<◌, ◌≤◌, ◌==◌, ◌&&◌, List, [], ◌∷◌, length, filter, map, Option, Some, None, if◌then◌else◌}
-use Rattle.std.specs.List.{AllByRecursion, HoldsAt, flat_map, list_any}
+use Rattle.std.specs.Prelude.{◌≡◌, Bool, ℕ, ◌+◌, ◌-◌, ◌≤◌, ◌==◌, ◌&&◌, List, [], ◌∷◌, filter, map, Option, Some, None, if◌then◌else◌}
+use Rattle.std.specs.List.{AllByRecursion, flat_map, list_any}
 use Rattle.std.specs.Ordering.{is_eq}
 use Rattle.std.specs.declared.cmp.Ordering.{Ordering}
 use Rattle.cl_types.specs.declared.keys.PodKey.{PodKey}
 use Rattle.cl_types.specs.Ascending.{Ascends, found, put, sorted_set, without}
 use Rattle.cl_types.specs.RuleOrder.{pod_order}
 use Rattle.cl_types.specs.Text.{text_order}
-use Rattle.label_select.specs.Group.{Group, IsGroup}
+use Rattle.label_select.specs.Group.{Group}
 use Rattle.label_select.specs.Written.{group_text}
 use Rattle.cluster_types.specs.Cluster.{ClusterData}
 use Rattle.cluster_types.specs.Groups.{in_group}
@@ -114,12 +114,3 @@ group_nodes index g = nodes_of (entry_of index g)
 -- the nodes of the groups' members, ascending
 unfoldable pub span : List EntryData → List Group → List (List ℕ)
 span index applied = sorted_set text_order (flat_map (group_nodes index) applied)
-
--- ---- where a group stands
-
-abbrev pub IsOther : Group → EntryData → Type 0
-IsOther g e = IsGroup e.group × (e.group ≢ g)
-
-pub record StandsAt (g : Group) (index : List EntryData) (i : ℕ) : Type 0 where
-  pub within : i < length index
-  pub here : HoldsAt (λ (e : EntryData). e.group ≡ g) index i

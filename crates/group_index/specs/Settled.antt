@@ -1,6 +1,6 @@
 -- A change that moves the members of a group at some addresses alone (this project's own).
-use Rattle.std.specs.Prelude.{◌≡◌, ℕ, ◌++◌, List, [], ◌∷◌, Bool, false, ◌||◌, not, Option, Some, None, unwrap_or, if◌then◌else◌}
-use Rattle.std.specs.List.{flat_map}
+use Rattle.std.specs.Prelude.{◌≡◌, ◌<◌, ◌≤◌, ℕ, zero, suc, ◌++◌, List, [], ◌∷◌, length, Bool, true, false, ◌||◌, not, Option, Some, None, if◌then◌else◌}
+use Rattle.std.specs.List.{AllByRecursion, AllWithin, flat_map}
 use Rattle.std.specs.Option.{option_to_list}
 use Rattle.std.specs.declared.cmp.Ordering.{Ordering}
 use Rattle.cl_types.specs.declared.addr.Addr.{Addr}
@@ -9,11 +9,16 @@ use Rattle.cl_types.specs.Ascending.{Ascends, found, put, without}
 use Rattle.cl_types.specs.Text.{text_eq}
 use Rattle.label_select.specs.declared.group.Scope.{Scope}
 use Rattle.label_select.specs.declared.group.Scope.TheVariants.{Namespace, Namespaces}
+use Rattle.label_select.specs.Group.{Group}
 use Rattle.cluster_types.specs.Cluster.{ClusterData}
+use Rattle.cluster_types.specs.Groups.{in_group}
 use Rattle.cluster_types.specs.Node.{NamespaceData}
 use Rattle.cluster_types.specs.Pod.{PodData}
 use Rattle.cluster_objects.specs.Addresses.{is_among}
-use Rattle.group_index.specs.Changes.{at_pod}
+use Rattle.group_index.specs.declared.draft.Draft.{Draft}
+use Rattle.group_index.specs.declared.draft.Drafts.{Drafts}
+use Rattle.group_index.specs.declared.stretch.Stretch.{Stretch}
+use Rattle.group_index.specs.Changes.{at_cluster, at_pod, change_at}
 use Rattle.group_index.specs.Index.{EntryData}
 use Rattle.group_index.specs.Members.{MemberData, by_address, members_of}
 
@@ -46,32 +51,64 @@ pub record DiffersAt (addresses : List Addr) (old new : List MemberData) : Type 
   pub new_ascends : AscendByAddress new
   pub alike : (a : Addr) → is_among a addresses ≡ false → found (at_address a) old ≡ found (at_address a) new
 
--- the addresses for a group whose scope is one namespace, or those for a group whose scope is a selector
-abbrev pub addresses_for : List Addr → List Addr → Scope → List Addr
-addresses_for named others (Namespace name) = named
-addresses_for named others (Namespaces selector) = others
+-- ---- the groups that a change concerns
 
--- the members of a group in use are those at the cluster but for these addresses
-abbrev pub MovesAt : List Addr → List Addr → ClusterData → EntryData → Type 0
-MovesAt named others c e = DiffersAt (addresses_for named others e.group.scope) e.members (members_of c e.group)
+-- the group contains the pod, where there is one
+abbrev pub contains : ClusterData → Group → Option PodData → Bool
+contains c g (Some p) = in_group c g p
+contains c g None = false
+
+-- a pod's change concerns the groups that contain the pod as it was or as it is
+abbrev pub has_either : ClusterData → Option PodData → Option PodData → Group → Bool
+has_either c old now g = contains c g old || contains c g now
+
+-- the scope is a selector
+abbrev pub is_selector : Scope → Bool
+is_selector (Namespace name) = false
+is_selector (Namespaces selector) = true
+
+-- a namespace's change concerns the groups whose scope is a selector of namespaces
+abbrev pub follows_labels : Group → Bool
+follows_labels g = is_selector g.scope
+
+-- the members of a group in use are those at the cluster
+abbrev pub Stays : ClusterData → EntryData → Type 0
+Stays c e = e.members ≡ members_of c e.group
+
+abbrev pub addresses_where : Bool → List Addr → List Addr
+addresses_where concerned addresses = if concerned then addresses else []
+
+-- the members of a group in use are those at the cluster, but for these addresses where the change concerns the group
+abbrev pub MovesAt : (Group → Bool) → List Addr → ClusterData → EntryData → Type 0
+MovesAt concerns addresses c e = DiffersAt (addresses_where (concerns e.group) addresses) e.members (members_of c e.group)
 
 -- ---- drafts
 
--- a group in use with the members of its draft, where it has one
-abbrev pub settled : Option (List MemberData) → EntryData → EntryData
-settled draft e = record { group = e.group; uses = e.uses; members = unwrap_or draft e.members }
+abbrev pub with_members : List MemberData → EntryData → EntryData
+with_members members e = record { group = e.group; uses = e.uses; members = members }
 
--- the first groups in use with their drafts settled
-abbrev pub settled_by : List (Option (List MemberData)) → List EntryData → List EntryData
+-- the groups in use with these members for the one at the place
+abbrev pub settled_at : ℕ → List MemberData → List EntryData → List EntryData
+settled_at i members [] = []
+settled_at zero members (e ∷ es) = with_members members e ∷ es
+settled_at (suc i) members (e ∷ es) = e ∷ settled_at i members es
+
+-- the groups in use with the drafts settled, the last one first
+abbrev pub settled_by : List Draft → List EntryData → List EntryData
 settled_by [] index = index
-settled_by (d ∷ ds) [] = []
-settled_by (d ∷ ds) (e ∷ es) = settled d e ∷ settled_by ds es
+settled_by (d ∷ ds) index = settled_at d.place d.members (settled_by ds index)
 
--- a draft for each group in use, which leads to its members at the cluster
-abbrev pub AreDrafts : ClusterData → List (Option (List MemberData)) → List EntryData → Type 0
-AreDrafts c [] [] = Unit {0}
-AreDrafts c (d ∷ ds) (e ∷ es) = (unwrap_or d e.members ≡ members_of c e.group) × AreDrafts c ds es
-AreDrafts c _ _ = ⊥
+-- the draft of a group at the place, where it has one
+abbrev pub draft_at : ℕ → Option (List MemberData) → List Draft
+draft_at i (Some members) = record { place = i; members = members } ∷ []
+draft_at i None = []
+
+-- Of the first groups in use: what changes in them, and drafts by which they get their members at the cluster,
+-- whatever groups follow.
+pub record AreDrafts (c : ClusterData) (first : List EntryData) (d : Drafts) : Type 0 where
+  pub changes : d.changes.items ≡ flat_map (change_at c) first
+  pub within : AllByRecursion (λ (draft : Draft). draft.place < length first) d.drafts.items
+  pub settle : (rest : List EntryData) → settled_by d.drafts.items (first ++ rest) ≡ at_cluster c first ++ rest
 
 -- ---- the addresses that a change concerns
 
@@ -79,11 +116,15 @@ abbrev pub addresses_of : Option PodData → List Addr
 addresses_of (Some p) = p.addresses
 addresses_of None = []
 
--- of a pod that changed: those of the old pod, and those of the pod that is there now
-abbrev pub pod_addresses : Option PodData → Option PodData → List PodData → List Addr
-pod_addresses (Some old) new pods = old.addresses ++ addresses_of (found (at_pod old.key) pods)
-pod_addresses None (Some new) pods = addresses_of (found (at_pod new.key) pods)
-pod_addresses None None pods = []
+-- the pod that is there now at the key of the one that changed
+abbrev pub pod_now : Option PodData → Option PodData → List PodData → Option PodData
+pod_now (Some old) new pods = found (at_pod old.key) pods
+pod_now None (Some new) pods = found (at_pod new.key) pods
+pod_now None None pods = None
+
+-- of a pod that changed: those of the pod as it was, and those of the pod as it is
+abbrev pub pod_addresses : Option PodData → Option PodData → List Addr
+pod_addresses old now = addresses_of old ++ addresses_of now
 
 -- the object is one of another namespace
 abbrev pub is_stray : Option NamespaceData → List ℕ → Bool
@@ -100,3 +141,11 @@ addresses_if old name p = if is_concerned old name p then p.addresses else []
 -- of a namespace that changed: those of its pods
 abbrev pub namespace_addresses : Option NamespaceData → List ℕ → List PodData → List Addr
 namespace_addresses old name pods = flat_map (addresses_if old name) pods
+
+-- ---- items that stand together
+
+-- every item that doesn't stand there passes
+pub record IsStretch {T : Type 0} (P : T → Type 0) (xs : List T) (s : Stretch) : Type 0 where
+  pub within : s.end ≤ length xs
+  pub before : AllWithin P xs 0 s.start
+  pub after : AllWithin P xs s.end (length xs)

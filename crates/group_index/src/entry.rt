@@ -1,21 +1,21 @@
-ghost use Rattle.std.specs.Prelude.{◌≡◌, ◌++◌, ◌↔◌, ◌≤◌, ◌==◌, unwrap_or, IsTrue, IfOk, OnOk, OnErr, IfSome, IfNone};
+ghost use Rattle.std.specs.Prelude.{◌≡◌, ◌++◌, ◌≤◌, ◌==◌, unwrap_or, IfErr, IfOk, OnOk, OnErr, IfSome, IfNone};
 ghost use Rattle.std.specs.List.{AllByRecursion};
-ghost use Rattle.cl_types.specs.Ascending.{IsPlace, found};
-ghost use Rattle.label_select.specs.Group.{IsGroup};
+ghost use Rattle.cl_types.specs.Ascending.{IsGap, IsPlace};
 ghost use Rattle.label_select.specs.Written.{group_text};
 ghost use Rattle.group_index.specs.Changes.{change_at};
-ghost use Rattle.group_index.specs.Index.{IsOther, StandsAt, IsIndex, at_group, entry_of, first_use, group_if_has, has_pod, used_again, used_less};
+ghost use Rattle.group_index.specs.Index.{IsIndex, at_group, entry_of, first_use, group_if_has, has_pod, used_again, used_less};
 ghost use Rattle.group_index.specs.Members.{members_of};
-ghost use Rattle.group_index.specs.Settled.{MovesAt, settled};
+ghost use Rattle.group_index.specs.Settled.{DiffersAt, follows_labels, with_members};
 
 use crate::change::GroupChange;
 use crate::gather::members_of;
 use crate::member::Member;
 use crate::settle::draft_of;
-use cl_types::{Addr, Copies, Keyed, List, NoMemory, PodKey, Same, Text};
+use cl_types::{Addr, Copies, Keyed, List, NoMemory, PodKey, Text};
 use cluster_objects::Cluster;
-use label_select::{GroupKey, Scope, group_form, group_texts_differ, write_group};
+use label_select::{GroupKey, Scope, compare_group, write_group};
 use std::alloc::Global;
+use std::cmp::Ordering;
 use std::marker::Model;
 
 /// A group in use, with its text, how often it is used, and its members.
@@ -75,15 +75,6 @@ impl Entry {
         Ok(())
     }
 
-    // Whether it is the entry of the group. The form is that of every group.
-    fn is_of(&self, g: &GroupKey) -> bool
-        ensures answer { IsTrue result ↔ (self.now.group ≡ g.now) }
-        ensures form { IsGroup self.now.group }
-    {
-        group_form(&self.group);
-        self.group.same(g)
-    }
-
     /// Whether it is used once and no more.
     pub(crate) fn is_used_once(&self) -> bool
         ensures once { result ≡ (self.now.uses == 1) }
@@ -99,31 +90,42 @@ impl Entry {
         &self.members
     }
 
+    /// The group.
+    pub(crate) fn group(&self) -> &GroupKey
+        ensures { result.now ≡ self.now.group }
+    {
+        &self.group
+    }
+
+    /// Whether the group's scope is a selector of namespaces.
+    pub(crate) fn follows_labels(&self) -> bool
+        ensures { result ≡ follows_labels self.now.group }
+    {
+        match self.group.scope {
+            Scope::Namespace(_) => false,
+            Scope::Namespaces(_) => true,
+        }
+    }
+
     /// Appends what changes in the group where its members differ at these addresses alone, and answers the new ones.
     pub(crate) fn draft(
         &self,
         changes: &mut Vec<GroupChange>,
         c: &Cluster,
-        named: &[Addr],
-        others: &[Addr],
+        addresses: &[Addr],
     ) -> Result<Option<List<Member>>, NoMemory>
-        requires { MovesAt named.now others.now c.now.cluster self.now }
+        requires { DiffersAt addresses.now self.now.members (members_of c.now.cluster self.now.group) }
         ensures changes { OnOk result (changes.new.items ≡ changes.old.items ++ change_at c.now.cluster self.now) }
         ensures draft { IfOk result (λ d. unwrap_or d self.now.members ≡ members_of c.now.cluster self.now.group) }
     {
-        match &self.group.scope {
-            Scope::Namespace(_) => draft_of(changes, c, &self.group, &self.members, named),
-            Scope::Namespaces(_) => draft_of(changes, c, &self.group, &self.members, others),
-        }
+        draft_of(changes, c, &self.group, &self.members, addresses)
     }
 
-    /// Gives the group the members of its draft, where it has one. It does not allocate.
-    pub(crate) fn settle(&mut self, draft: Option<List<Member>>)
-        ensures { self.new ≡ settled draft self.old }
+    /// Gives the group these members. It does not allocate.
+    pub(crate) fn settle(&mut self, members: List<Member>)
+        ensures { self.new ≡ with_members members self.old }
     {
-        if let Some(members) = draft {
-            self.members = members;
-        }
+        self.members = members;
     }
 
     // Whether a member is of the pod.
@@ -156,17 +158,24 @@ impl Entry {
     }
 }
 
-// Where the group's entry stands.
-fn position_of(entries: &[Entry], g: &GroupKey) -> Option<usize>
-    ensures found { IfSome result (StandsAt g.now entries.now) }
-    ensures none { IfNone result (AllByRecursion (IsOther g.now) entries.now) }
+// How the entry stands to the group, by their texts.
+fn order_at(e: &Entry, g: &GroupKey) -> Ordering
+    ensures { result ≡ at_group g.now e.now }
 {
-    for i in 0..entries.len() {
-        if entries[i].is_of(g) {
-            return Some(i);
-        }
-    }
-    None
+    compare_group(g, &e.text).reverse()
+}
+
+// The place of the group's entry, or where to insert one.
+fn search_group(entries: &[Entry], g: &GroupKey) -> Result<usize, usize>
+    requires { IsIndex entries.now }
+    ensures found { IfOk result (IsPlace (at_group g.now) entries.now) }
+    ensures absent { IfErr result (IsGap (at_group g.now) entries.now) }
+{
+    entries.binary_search_by(
+        |e: &Entry| -> Ordering
+            ensures { result ≡ at_group g.entry.now e.now }
+        { order_at(e, g) },
+    )
 }
 
 /// The place of the group's entry. It does not allocate.
@@ -175,7 +184,8 @@ pub(crate) fn place_of(entries: &[Entry], g: &GroupKey) -> Option<usize>
     ensures place { IfSome result (IsPlace (at_group g.now) entries.now) }
     ensures none { IfNone result (entry_of entries.now g.now ≡ None) }
 {
-    group_form(g);
-    group_texts_differ();
-    position_of(entries, g)
+    match search_group(entries, g) {
+        Ok(i) => Some(i),
+        Err(_) => None,
+    }
 }

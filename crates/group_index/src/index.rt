@@ -1,20 +1,21 @@
-ghost use Rattle.std.specs.Prelude.{◌≡◌, ◌++◌, [], Some, map, IfOk, OnOk, OnErr, IsSome, option_map, option_copied};
+ghost use Rattle.std.specs.Prelude.{◌≡◌, ◌<◌, ◌++◌, [], Some, length, map, IfOk, OnOk, OnErr, IsSome, option_map, option_copied};
 ghost use Rattle.std.specs.List.{AllByRecursion, flat_map, list_any};
 ghost use Rattle.cl_types.specs.Ascending.{IsPlace};
 ghost use Rattle.cluster_types.specs.Cluster.{ClusterData, IsCluster};
 ghost use Rattle.group_index.specs.Changes.{at_cluster, before_namespace, before_pod, change_at, changes_between};
 ghost use Rattle.group_index.specs.Index.{EntryData, IsIndex, StandsFor, at_group, entry_of, group_nodes, groups_of, groups_with, has_node, span, with_use, without_use};
 ghost use Rattle.group_index.specs.Members.{MemberData, is_member_on};
-ghost use Rattle.group_index.specs.Settled.{MovesAt};
+ghost use Rattle.group_index.specs.Settled.{AreDrafts, MovesAt, follows_labels, has_either, namespace_addresses, pod_addresses, settled_by};
+ghost use Rattle.group_index.specs.declared.draft.Draft.{Draft};
 ghost use Rattle.label_select.specs.Group.{Group};
 
 use crate::change::GroupChange;
-use crate::concern::{namespace_addresses, pod_addresses};
-use crate::draft::{drafted, settle};
+use crate::concern::{namespace_addresses, pod_addresses, pod_now};
+use crate::draft::{Drafts, settle};
 use crate::entry::{Entry, place_of};
 use crate::member::Member;
 use crate::sorted::sorted;
-use cl_types::{Addr, Copies, List, NoMemory, PodKey, Text, put};
+use cl_types::{Copies, List, NoMemory, PodKey, Text, put};
 use cluster_objects::{Cluster, Namespace, Pod};
 use label_select::GroupKey;
 use std::alloc::Global;
@@ -112,26 +113,53 @@ impl GroupIndex {
         }
     }
 
-    // Moves the members of every group in use: at some addresses where its scope is one namespace, else at the others.
-    fn settle_at(
-        &mut self,
+    // Gives the groups the members of their drafts, and answers what changes. It does not allocate.
+    fn settle(&mut self, drafts: Drafts) -> List<GroupChange>
+        requires { AllByRecursion (λ (d : Draft). d.place < length self.old) drafts.drafts.items }
+        ensures index { self.new ≡ settled_by drafts.drafts.items self.old }
+        ensures changes { result ≡ drafts.changes.items }
+    {
+        settle(&mut self.entries, drafts.drafts);
+        List::of(drafts.changes)
+    }
+
+    fn drafts_of_pod(
+        &self,
         c: &Cluster,
-        named: &[Addr],
-        others: &[Addr],
-    ) -> Result<List<GroupChange>, NoMemory>
-        requires { AllByRecursion (MovesAt named.now others.now c.now.cluster) self.old }
-        ensures index { OnOk result (self.new ≡ at_cluster c.now.cluster self.old) }
-        ensures changes { IfOk result (λ changes. changes ≡ flat_map (change_at c.now.cluster) self.old) }
-        ensures err { OnErr result (self.new ≡ self.old) }
+        old: Option<&Pod>,
+        now: Option<&Pod>,
+    ) -> Result<Drafts, NoMemory>
+        requires { AllByRecursion (MovesAt (has_either c.now.cluster (option_copied old) (option_copied now)) (pod_addresses (option_copied old) (option_copied now)) c.now.cluster) self.now }
+        ensures { IfOk result (λ drafts. AreDrafts c.now.cluster self.now drafts) }
     {
         let alloc = *self.entries.allocator();
-        let settling = drafted(alloc, self.entries.as_slice(), c, named, others)?;
-        settle(&mut self.entries, settling.drafts);
-        Ok(List::of(settling.changes))
+        let addresses = pod_addresses(alloc, old, now)?;
+        let entries = self.entries.as_slice();
+        let mut drafts = Drafts::new(alloc);
+        drafts.draft_pod(entries, 0, entries.len(), c, old, now, addresses.as_slice())?;
+        Ok(drafts)
+    }
+
+    fn drafts_of_namespace(
+        &self,
+        c: &Cluster,
+        old: Option<&Namespace>,
+        name: &Text,
+    ) -> Result<Drafts, NoMemory>
+        requires { AllByRecursion (MovesAt follows_labels (namespace_addresses (option_copied old) name.now c.now.cluster.pods) c.now.cluster) self.now }
+        ensures { IfOk result (λ drafts. AreDrafts c.now.cluster self.now drafts) }
+    {
+        let alloc = *self.entries.allocator();
+        let addresses = namespace_addresses(alloc, c, old, name)?;
+        let entries = self.entries.as_slice();
+        let mut drafts = Drafts::new(alloc);
+        drafts.draft_namespace(entries, 0, entries.len(), c, addresses.as_slice())?;
+        Ok(drafts)
     }
 
     /// Follows a pod that changed, came (without `old`) or went (without `new`), and answers what changed in the groups
-    /// in use. It reads members at the addresses of the two alone, and no other pod of the cluster.
+    /// in use. It reads the members of the groups that contain the one or the other, at the addresses of the two alone, and
+    /// no other pod of the cluster.
     pub fn pod_changed(
         &mut self,
         c: &Cluster,
@@ -144,10 +172,9 @@ impl GroupIndex {
         ensures stands { OnOk result (StandsFor self.new c.now.cluster) }
         ensures err { OnErr result (self.new ≡ self.old) }
     {
-        let alloc = *self.entries.allocator();
-        let addresses = pod_addresses(alloc, c, old, new)?;
         c.keeps_its_form();
-        self.settle_at(c, addresses.as_slice(), addresses.as_slice())
+        let drafts = self.drafts_of_pod(c, old, pod_now(c, old, new))?;
+        Ok(self.settle(drafts))
     }
 
     /// Follows a namespace whose labels changed, that came (without `old`) or that went, and answers what changed in the
@@ -165,10 +192,9 @@ impl GroupIndex {
         ensures stands { OnOk result (StandsFor self.new c.now.cluster) }
         ensures err { OnErr result (self.new ≡ self.old) }
     {
-        let alloc = *self.entries.allocator();
-        let addresses = namespace_addresses(alloc, c, old, name)?;
         c.keeps_its_form();
-        self.settle_at(c, &[], addresses.as_slice())
+        let drafts = self.drafts_of_namespace(c, old, name)?;
+        Ok(self.settle(drafts))
     }
 
     /// The groups in use that contain the pod, by their texts.

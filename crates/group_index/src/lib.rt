@@ -11,6 +11,7 @@ mod laws;
 mod member;
 mod settle;
 mod sorted;
+mod stretch;
 
 pub use change::GroupChange;
 pub use index::GroupIndex;

@@ -1,3 +1,4 @@
+pub mod ByAddress
 pub mod FirstHeld
 pub mod GroupPlaces
 pub mod LeadingOn

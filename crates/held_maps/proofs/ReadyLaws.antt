@@ -1,5 +1,5 @@
 -- A message whose steps were made and whose places are reserved is ready.
-use Rattle.std.proofs.Common.{◌≡◌, List, [], true, false, map, reverse, Vec, Global, vec_len, refl, sym, ap, subst, ◌∙◌, length, arith, ◌∷◌}
+use Rattle.std.proofs.Common.{◌≡◌, List, [], true, false, map, reverse, refl, sym, ap, subst, ◌∙◌, length, arith, ◌∷◌}
 use Rattle.std.specs.List.{AllByRecursion}
 use Rattle.cl_types.specs.declared.stream.Rev.{Rev}
 use Rattle.cl_types.specs.declared.stream.Stream.{Stream}
@@ -38,13 +38,13 @@ ascends_on Policies held maps = map_ascends held.policies held.egresses
 ascends_on Addresses held maps = maps.addresses.ascends
 ascends_on Applied held maps = maps.applied.ascends
 
-pub ready_delta : GroupTextsDiffer → (s : Stream) (rev : Rev) (changes : List StreamChange) (held : HeldData) (steps : Vec Step Global) (places : Room) → AreMaps held
-    → AreDistinct (map changed_name changes) → AllByRecursion HasChangeForm changes → steps.items ≡ steps_of s (map_on s (maps_of held)) changes → IsRoomFor s held false (vec_len steps) places
+pub ready_delta : GroupTextsDiffer → (s : Stream) (rev : Rev) (changes : List StreamChange) (held : HeldData) (steps : List Step) (places : Room) → AreMaps held
+    → AreDistinct (map changed_name changes) → AllByRecursion HasChangeForm changes → steps ≡ steps_of s (map_on s (maps_of held)) changes → IsRoomFor s held false (length steps) places
     → IsReady s (Delta rev changes) held (record { rev = rev; whole = false; steps = steps; room = places })
 ready_delta differ s rev changes held steps (room.Same t) maps distinct forms is there =
-    let none : length steps.items ≡ 0 = omega (arith, steps.ok.0, there.2) in
+    let none : length steps ≡ 0 = there.2 in
     let leads : map_on s (maps_of held) ≡ after_changes s changes (map_on s (maps_of held)) =
-    ap (λ l. after_steps l (map_on s (maps_of held))) (sym (nothing steps.items none) ∙ is)
+    ap (λ l. after_steps l (map_on s (maps_of held))) (sym (nothing steps none) ∙ is)
     ∙ change_steps differ s (map_on s (maps_of held)) changes (ascends_on s held maps) distinct forms in
     record {
       fits = tt;
@@ -54,8 +54,8 @@ ready_delta differ s rev changes held steps (room.Same t) maps distinct forms is
       };
     }
 ready_delta differ Policies rev changes held steps (room.Policies p e) maps distinct forms is there =
-    let fit : AllByRecursion (StepFits Policies) steps.items = subst (AllByRecursion (StepFits Policies)) (sym is) (changes_fit Policies (policies_map held.policies held.egresses) changes forms) in
-    let made = policy_steps steps.items held.policies held.egresses maps.policies maps.egresses fit in
+    let fit : AllByRecursion (StepFits Policies) steps = subst (AllByRecursion (StepFits Policies)) (sym is) (changes_fit Policies (policies_map held.policies held.egresses) changes forms) in
+    let made = policy_steps steps held.policies held.egresses maps.policies maps.egresses fit in
     record {
       fits = there;
       leads = record {
@@ -66,18 +66,18 @@ ready_delta differ Policies rev changes held steps (room.Policies p e) maps dist
       };
     }
 ready_delta differ Addresses rev changes held steps (room.Addresses rows) maps distinct forms is there =
-    let fit : AllByRecursion (StepFits Addresses) steps.items = subst (AllByRecursion (StepFits Addresses)) (sym is) (changes_fit Addresses held.addresses changes forms) in
+    let fit : AllByRecursion (StepFits Addresses) steps = subst (AllByRecursion (StepFits Addresses)) (sym is) (changes_fit Addresses held.addresses changes forms) in
     record {
-      fits = (there, steps_map Addresses steps.items held.addresses fit maps.addresses);
+      fits = (there, steps_map Addresses steps held.addresses fit maps.addresses);
       leads = record {
         maps = ap (λ os. with_map Addresses os (maps_of held)) (ap (λ l. after_steps l held.addresses) is ∙ change_steps differ Addresses held.addresses changes maps.addresses.ascends distinct forms);
         revisions = refl;
       };
     }
 ready_delta differ Applied rev changes held steps (room.Applied rows) maps distinct forms is there =
-    let fit : AllByRecursion (StepFits Applied) steps.items = subst (AllByRecursion (StepFits Applied)) (sym is) (changes_fit Applied held.applied changes forms) in
+    let fit : AllByRecursion (StepFits Applied) steps = subst (AllByRecursion (StepFits Applied)) (sym is) (changes_fit Applied held.applied changes forms) in
     record {
-      fits = (there, steps_map Applied steps.items held.applied fit maps.applied);
+      fits = (there, steps_map Applied steps held.applied fit maps.applied);
       leads = record {
         maps = ap (λ os. with_map Applied os (maps_of held)) (ap (λ l. after_steps l held.applied) is ∙ change_steps differ Applied held.applied changes maps.applied.ascends distinct forms);
         revisions = refl;
@@ -90,16 +90,16 @@ ready_delta differ Addresses rev changes held steps (room.Applied rows) maps dis
 ready_delta differ Applied rev changes held steps (room.Policies p e) maps distinct forms is there = absurd there
 ready_delta differ Applied rev changes held steps (room.Addresses rows) maps distinct forms is there = absurd there
 
-pub ready_snapshot : (s : Stream) (rev : Rev) (objects : List StreamObject) (held : HeldData) (steps : Vec Step Global) (places : Room)
-    → AllByRecursion HasObjectForm objects → steps.items ≡ reverse (put_steps s objects) → IsRoomFor s held true (vec_len steps) places
+pub ready_snapshot : (s : Stream) (rev : Rev) (objects : List StreamObject) (held : HeldData) (steps : List Step) (places : Room)
+    → AllByRecursion HasObjectForm objects → steps ≡ reverse (put_steps s objects) → IsRoomFor s held true (length steps) places
     → IsReady s (Snapshot rev objects) held (record { rev = rev; whole = true; steps = steps; room = places })
 ready_snapshot s rev objects held steps (room.Same t) forms is there = absurd (never there.1)
   where
     never : true ≡ false → ⊥
     never e = cc
 ready_snapshot Policies rev objects held steps (room.Policies p e) forms is there =
-    let fit : AllByRecursion (StepFits Policies) steps.items = subst (AllByRecursion (StepFits Policies)) (sym is) (objects_fit Policies objects forms) in
-    let made = policy_steps steps.items [] [] tt tt fit in
+    let fit : AllByRecursion (StepFits Policies) steps = subst (AllByRecursion (StepFits Policies)) (sym is) (objects_fit Policies objects forms) in
+    let made = policy_steps steps [] [] tt tt fit in
     record {
       fits = there;
       leads = record {
@@ -108,15 +108,15 @@ ready_snapshot Policies rev objects held steps (room.Policies p e) forms is ther
       };
     }
 ready_snapshot Addresses rev objects held steps (room.Addresses rows) forms is there =
-    let fit : AllByRecursion (StepFits Addresses) steps.items = subst (AllByRecursion (StepFits Addresses)) (sym is) (objects_fit Addresses objects forms) in
+    let fit : AllByRecursion (StepFits Addresses) steps = subst (AllByRecursion (StepFits Addresses)) (sym is) (objects_fit Addresses objects forms) in
     record {
-      fits = (there, steps_map Addresses steps.items [] fit (no_objects Addresses));
+      fits = (there, steps_map Addresses steps [] fit (no_objects Addresses));
       leads = record { maps = ap (λ os. with_map Addresses os (maps_of held)) (ap (λ l. after_steps l []) is ∙ snapshot_steps Addresses objects); revisions = refl };
     }
 ready_snapshot Applied rev objects held steps (room.Applied rows) forms is there =
-    let fit : AllByRecursion (StepFits Applied) steps.items = subst (AllByRecursion (StepFits Applied)) (sym is) (objects_fit Applied objects forms) in
+    let fit : AllByRecursion (StepFits Applied) steps = subst (AllByRecursion (StepFits Applied)) (sym is) (objects_fit Applied objects forms) in
     record {
-      fits = (there, steps_map Applied steps.items [] fit (no_objects Applied));
+      fits = (there, steps_map Applied steps [] fit (no_objects Applied));
       leads = record { maps = ap (λ os. with_map Applied os (maps_of held)) (ap (λ l. after_steps l []) is ∙ snapshot_steps Applied objects); revisions = refl };
     }
 ready_snapshot Policies rev objects held steps (room.Addresses rows) forms is there = absurd there

@@ -1,10 +1,11 @@
-ghost use Rattle.std.specs.Prelude.{◌≡◌, ◌+◌, length, vec_len};
+ghost use Rattle.std.specs.Prelude.{◌≡◌, ◌+◌, ◌≤◌, length};
 ghost use Rattle.held_maps.specs.Ready.{start, after_ready, FitsIn};
 ghost use Rattle.held_maps.specs.Rows.{IsRoom, HasRows};
 ghost use Rattle.held_maps.specs.Steps.{after_steps, policies_after_steps, egresses_after_steps};
 
 use crate::apply::{apply_all, apply_policies};
 use crate::held::Held;
+use crate::places::Places;
 use crate::ready::{Ready, Room};
 use crate::rows::Rows;
 use crate::shelf::{Shelf, Titled};
@@ -22,16 +23,32 @@ fn begin<T: Titled + Drop>(shelf: &mut Shelf<T>, whole: bool, rows: &mut Rows<T>
     }
 }
 
+// The rows with what is there, but for a whole map, and places for so many more.
+fn filled<T: Titled + Drop>(
+    shelf: &mut Shelf<T>,
+    whole: bool,
+    places: Places<T>,
+    more: usize,
+) -> Rows<T>
+    requires { length (start whole shelf.old) + more ≤ places }
+    ensures objects { result.objects.items ≡ start whole shelf.old }
+    ensures rows { HasRows T.title more result }
+{
+    let mut rows = places.into_rows();
+    begin(shelf, whole, &mut rows, more);
+    rows
+}
+
 fn finish_groups(
     shelf: &mut Shelf<StreamObject>,
     whole: bool,
-    mut rows: Rows<StreamObject>,
+    places: Places<StreamObject>,
     steps: Vec<Step>,
 )
-    requires { IsRoom (length (start whole shelf.old) + vec_len steps) rows }
+    requires { length (start whole shelf.old) + length steps.items ≤ places }
     ensures { shelf.new ≡ after_steps steps.items (start whole shelf.old) }
 {
-    begin(shelf, whole, &mut rows, steps.len());
+    let mut rows = filled(shelf, whole, places, steps.len());
     apply_all(&mut rows, steps);
     *shelf = Shelf::of_rows(rows);
 }
@@ -40,17 +57,17 @@ fn finish_policies(
     policies: &mut Shelf<NetPolicy>,
     egresses: &mut Shelf<NetEgress>,
     whole: bool,
-    mut policy_rows: Rows<NetPolicy>,
-    mut egress_rows: Rows<NetEgress>,
+    policy_places: Places<NetPolicy>,
+    egress_places: Places<NetEgress>,
     steps: Vec<Step>,
 )
-    requires policies { IsRoom (length (start whole policies.old) + vec_len steps) policy_rows }
-    requires egresses { IsRoom (length (start whole egresses.old) + vec_len steps) egress_rows }
+    requires policies { length (start whole policies.old) + length steps.items ≤ policy_places }
+    requires egresses { length (start whole egresses.old) + length steps.items ≤ egress_places }
     ensures policies { policies.new ≡ policies_after_steps steps.items (start whole policies.old) }
     ensures egresses { egresses.new ≡ egresses_after_steps steps.items (start whole egresses.old) }
 {
-    begin(policies, whole, &mut policy_rows, steps.len());
-    begin(egresses, whole, &mut egress_rows, steps.len());
+    let mut policy_rows = filled(policies, whole, policy_places, steps.len());
+    let mut egress_rows = filled(egresses, whole, egress_places, steps.len());
     apply_policies(&mut policy_rows, &mut egress_rows, steps);
     *policies = Shelf::of_rows(policy_rows);
     *egresses = Shelf::of_rows(egress_rows);
@@ -81,12 +98,12 @@ impl Held {
                 );
                 self.revisions.policies = rev;
             }
-            Room::Addresses(rows) => {
-                finish_groups(&mut self.addresses, whole, rows, steps);
+            Room::Addresses(places) => {
+                finish_groups(&mut self.addresses, whole, places, steps);
                 self.revisions.addresses = rev;
             }
-            Room::Applied(rows) => {
-                finish_groups(&mut self.applied, whole, rows, steps);
+            Room::Applied(places) => {
+                finish_groups(&mut self.applied, whole, places, steps);
                 self.revisions.applied = rev;
             }
         }

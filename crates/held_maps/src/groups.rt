@@ -1,63 +1,17 @@
-ghost use Rattle.std.specs.Prelude.{◌≡◌, ◌≢◌, [], true, option_copied, unwrap_or, MatchOption};
-ghost use Rattle.std.specs.List.{AllByRecursion, list_any, list_all};
-ghost use Rattle.std.specs.declared.cmp.Ordering.TheVariants.{Equal};
-ghost use Rattle.cl_types.specs.declared.stream.Stream.TheVariants.{Addresses};
+ghost use Rattle.std.specs.Prelude.{◌≡◌, [], option_copied, unwrap_or};
+ghost use Rattle.std.specs.List.{list_any, list_all};
+ghost use Rattle.cl_types.specs.Addr.{addr_order};
 ghost use Rattle.cl_types.specs.Ascending.{Ascends, found};
-ghost use Rattle.label_select.specs.Written.{group_text};
-ghost use Rattle.watch_streams.specs.Difference.{belongs};
 ghost use Rattle.held_maps.specs.Held.{maps_of, map_on};
-ghost use Rattle.watch_streams.specs.HeldEvaluation.{held_group, group_in, held_member, is_held, is_at, member_defines};
-ghost use Rattle.watch_streams.specs.Laws.{HasGroupForm, IsMap};
+ghost use Rattle.watch_streams.specs.HeldEvaluation.{held_group, group_in, held_member, is_held, is_at};
 ghost use Rattle.watch_streams.specs.Names.{at_text};
 ghost use Rattle.watch_streams.specs.Net.{member_order};
 
 use crate::held::Held;
-use cl_types::{Addr, List, Same, Stream, Text};
-use label_select::{GroupKey, group_form, group_texts_differ};
+use cl_types::{Addr, List, Stream, Text};
+use label_select::GroupKey;
+use std::cmp::Ordering;
 use watch_streams::{HeldMember, StreamObject};
-
-// The members of a group, where the object is the group.
-fn members_of<'a>(object: &'a StreamObject, g: &GroupKey) -> Option<&'a List<HeldMember>>
-    requires belongs { belongs Addresses object.now ≡ true }
-    requires form { HasGroupForm object.now }
-    ensures { MatchOption result (at_text (group_text g.now) object.now ≢ Equal) (λ members. object.now ≡ StreamObject.Group g.now members.now) }
-{
-    group_form(g);
-    group_texts_differ();
-    match object {
-        StreamObject::Policy(_) => None,
-        StreamObject::Egress(_) => None,
-        StreamObject::Group { group, members } => {
-            if group.same(g) { Some(members) } else { None }
-        }
-    }
-}
-
-// The members of a group of a map.
-fn group_of<'a>(objects: &'a [StreamObject], g: &GroupKey) -> Option<&'a List<HeldMember>>
-    requires { IsMap Addresses objects.now }
-    ensures { option_copied result ≡ held_group objects.now g.now }
-{
-    for i in 0..objects.len() {
-        if let Some(members) = members_of(&objects[i], g) {
-            return Some(members);
-        }
-    }
-    None
-}
-
-impl Held {
-    /// The members of a group that is held on the stream.
-    pub fn group(&self, s: Stream, g: &GroupKey) -> Option<&List<HeldMember>>
-        ensures { option_copied result ≡ held_group (map_on s (maps_of self.now)) g.now }
-    {
-        match s {
-            Stream::Policies => None,
-            Stream::Addresses => group_of(self.addresses.objects().as_slice(), g),
-            Stream::Applied => group_of(self.applied.objects().as_slice(), g),
-        }
-    }
-}
 
 fn group_members(object: Option<&StreamObject>) -> Option<&List<HeldMember>>
     ensures { option_copied result ≡ group_in (option_copied object.entry) }
@@ -65,6 +19,20 @@ fn group_members(object: Option<&StreamObject>) -> Option<&List<HeldMember>>
     match object {
         Some(StreamObject::Group { members, .. }) => Some(members),
         _ => None,
+    }
+}
+
+impl Held {
+    /// The members of a group that is held on the stream, by their addresses.
+    pub fn group(&self, s: Stream, g: &GroupKey) -> Option<&List<HeldMember>>
+        ensures members { option_copied result ≡ held_group (map_on s (maps_of self.now)) g.now }
+        ensures ascend { Ascends (λ m. m) member_order (unwrap_or (option_copied result) []) }
+    {
+        match s {
+            Stream::Policies => None,
+            Stream::Addresses => group_members(self.addresses.find_group(g)),
+            Stream::Applied => group_members(self.applied.find_group(g)),
+        }
     }
 }
 
@@ -102,10 +70,17 @@ pub(crate) fn is_at(a: Addr, member: &HeldMember) -> bool
     member.address.is(a)
 }
 
+// Whether a member has the address, where the members ascend by their addresses.
 fn any_at(a: Addr, members: &[HeldMember]) -> bool
+    requires { Ascends (λ m. m) member_order members.now }
     ensures { result ≡ list_any (is_at a) members.now }
 {
-    members.iter().any(|member| is_at(a, member))
+    let found = members.binary_search_by(
+        |member: &HeldMember| -> Ordering
+            ensures { result ≡ addr_order member.now.address a }
+        { member.address.cmp(&a) },
+    );
+    found.is_ok()
 }
 
 /// Whether a member of the group, as it is held on the stream, has the address.

@@ -4,9 +4,9 @@ ghost use Rattle.held_maps.specs.Held.{maps_of};
 ghost use Rattle.watch_streams.specs.HeldEvaluation.{held_side};
 
 use crate::held::Held;
-use crate::rules::{Asked, first_rule, is_isolated};
+use crate::rules::{Asked, find_rules};
 use cl_types::{Judged, Question};
-use cluster_types::{Stage, allowed_by_default, allowed_first, decided_first};
+use cluster_types::{allowed_by_default, allowed_first, decided_first};
 
 impl Held {
     /// The verdict of what is held on one side of some traffic, by the rules whose groups are all held. It
@@ -18,11 +18,12 @@ impl Held {
             held: self,
             question: q,
         };
-        let otherwise = if is_isolated(&asked) {
-            allowed_first(first_rule(&asked, Stage::Kubernetes))
+        let found = find_rules(&asked);
+        let otherwise = if found.isolated {
+            allowed_first(found.kubernetes)
         } else {
-            decided_first(first_rule(&asked, Stage::Baseline), allowed_by_default())
+            decided_first(found.baseline, allowed_by_default())
         };
-        decided_first(first_rule(&asked, Stage::Native), otherwise)
+        decided_first(found.native, otherwise)
     }
 }

@@ -11,6 +11,7 @@ mod judge;
 mod laws;
 mod message_steps;
 mod peers;
+mod places;
 mod prepare;
 mod readers;
 mod ready;

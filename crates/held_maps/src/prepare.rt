@@ -1,13 +1,12 @@
-ghost use Rattle.std.specs.Prelude.{◌≡◌, ◌+◌, IfOk, OnOk, OnErr, length};
+ghost use Rattle.std.specs.Prelude.{◌≡◌, ◌+◌, ◌≤◌, IfOk, OnOk, OnErr, length};
 ghost use Rattle.watch_streams.specs.declared.message.Msg.TheVariants.{Delta, Snapshot};
 ghost use Rattle.held_maps.specs.Held.{IsTaken};
 ghost use Rattle.held_maps.specs.Ready.{start, IsRoomFor, IsReady, AreMaps};
-ghost use Rattle.held_maps.specs.Rows.{IsRoom};
 
 use crate::held::Held;
 use crate::message_steps::{changes_form, objects_form, put_steps, steps_of};
+use crate::places::Places;
 use crate::ready::{Ready, Room};
-use crate::rows::Rows;
 use crate::shelf::{Shelf, Titled};
 use cl_types::{NoMemory, Rev, Stream};
 use label_select::group_texts_differ;
@@ -15,13 +14,13 @@ use std::alloc::Global;
 use watch_streams::{Changes, Msg, Objects};
 
 // Places for what is there and so many more; a whole map starts from nothing.
-fn rows_for<T: Titled + Drop>(
+fn places_for<T: Titled + Drop>(
     alloc: Global,
     shelf: &Shelf<T>,
     whole: bool,
     more: usize,
-) -> Result<Rows<T>, NoMemory>
-    ensures { IfOk result (IsRoom (length (start whole shelf.now) + more)) }
+) -> Result<Places<T>, NoMemory>
+    ensures { IfOk result (λ places. length (start whole shelf.now) + more ≤ places) }
 {
     let kept = if whole {
         0
@@ -29,7 +28,7 @@ fn rows_for<T: Titled + Drop>(
         shelf.objects().as_slice().len()
     };
     let places = kept.checked_add(more).ok_or(NoMemory)?;
-    Rows::with_places(alloc, places)
+    Places::reserve(alloc, places)
 }
 
 impl Held {
@@ -50,17 +49,17 @@ impl Held {
         let alloc = self.policies.alloc();
         match s {
             Stream::Policies => {
-                let policies = rows_for(alloc, &self.policies, whole, more)?;
-                let egresses = rows_for(alloc, &self.egresses, whole, more)?;
+                let policies = places_for(alloc, &self.policies, whole, more)?;
+                let egresses = places_for(alloc, &self.egresses, whole, more)?;
                 Ok(Room::Policies(policies, egresses))
             }
-            Stream::Addresses => Ok(Room::Addresses(rows_for(
+            Stream::Addresses => Ok(Room::Addresses(places_for(
                 alloc,
                 &self.addresses,
                 whole,
                 more,
             )?)),
-            Stream::Applied => Ok(Room::Applied(rows_for(alloc, &self.applied, whole, more)?)),
+            Stream::Applied => Ok(Room::Applied(places_for(alloc, &self.applied, whole, more)?)),
         }
     }
 

@@ -1,7 +1,8 @@
-ghost use Rattle.std.specs.Prelude.{◌≡◌, ◌++◌, ◌&&◌, List, true, filter, option_copied};
+ghost use Rattle.std.specs.Prelude.{◌≡◌, ◌++◌, ◌&&◌, ◌||◌, List, true, filter, option_copied};
 ghost use Rattle.std.specs.List.{list_any};
-ghost use Rattle.cluster_types.specs.Steps.{in_stage, first};
+ghost use Rattle.cluster_types.specs.Steps.{in_stage, is_kube, first};
 ghost use Rattle.watch_streams.specs.declared.net.NetRule.{NetRule};
+ghost use Rattle.held_maps.specs.Findings.{FindsMore, isolates_own};
 ghost use Rattle.held_maps.specs.Held.{maps_of};
 ghost use Rattle.watch_streams.specs.HeldEvaluation.{held_member, is_at, held_rule_matches, held_rules_with, held_isolated, net_rule_key};
 ghost use Rattle.watch_streams.specs.Net.{net_isolates};
@@ -75,49 +76,73 @@ fn first_of_applying<'h>(
     found
 }
 
-// The same of any policy: the rules of one that doesn't apply match nothing.
-fn first_of_policy<'h>(
-    asked: &Asked,
-    policy: &'h NetPolicy,
-    stage: Stage,
-    after: Option<&'h NetRule>,
-) -> Option<&'h NetRule>
-    ensures { (later : List NetRule) → option_copied after.entry ≡ first net_rule_key later
-        → option_copied result ≡ first net_rule_key (filter (λ r. in_stage stage policy.now.key.kind r.key && held_rule_matches (maps_of asked.now.held.now) asked.now.question.now policy.now r) policy.now.rules ++ later) }
+/// What is found for a question: the first rule of each stage that matches it, and whether a Kubernetes policy isolates
+/// the question's own address.
+#[derive(Drop)]
+pub(crate) struct Findings<'h> {
+    pub(crate) native: Option<&'h NetRule>,
+    pub(crate) kubernetes: Option<&'h NetRule>,
+    pub(crate) baseline: Option<&'h NetRule>,
+    pub(crate) isolated: bool,
+}
+
+// What is found in a policy that applies and in those after it.
+fn found_in_applying<'h>(asked: &Asked, policy: &'h NetPolicy, after: Findings<'h>) -> Findings<'h>
+    requires { list_any (held_member (is_at asked.now.question.now.own) (maps_of asked.now.held.now).applied) policy.now.applied ≡ true }
+    ensures native { FindsMore (maps_of asked.now.held.now) asked.now.question.now Stage.Native policy.now (option_copied after.entry.native) (option_copied result.native) }
+    ensures kubernetes { FindsMore (maps_of asked.now.held.now) asked.now.question.now Stage.Kubernetes policy.now (option_copied after.entry.kubernetes) (option_copied result.kubernetes) }
+    ensures baseline { FindsMore (maps_of asked.now.held.now) asked.now.question.now Stage.Baseline policy.now (option_copied after.entry.baseline) (option_copied result.baseline) }
+    ensures isolated { result.isolated ≡ (isolates_own (maps_of asked.now.held.now) asked.now.question.now policy.now || after.entry.isolated) }
+{
+    Findings {
+        native: first_of_applying(asked, policy, Stage::Native, after.native),
+        kubernetes: first_of_applying(asked, policy, Stage::Kubernetes, after.kubernetes),
+        baseline: first_of_applying(asked, policy, Stage::Baseline, after.baseline),
+        isolated: isolates(policy, asked.question.dir) || after.isolated,
+    }
+}
+
+// The same of any policy: one that doesn't apply has no rule that matches, and isolates nothing.
+fn found_in<'h>(asked: &Asked, policy: &'h NetPolicy, after: Findings<'h>) -> Findings<'h>
+    ensures native { FindsMore (maps_of asked.now.held.now) asked.now.question.now Stage.Native policy.now (option_copied after.entry.native) (option_copied result.native) }
+    ensures kubernetes { FindsMore (maps_of asked.now.held.now) asked.now.question.now Stage.Kubernetes policy.now (option_copied after.entry.kubernetes) (option_copied result.kubernetes) }
+    ensures baseline { FindsMore (maps_of asked.now.held.now) asked.now.question.now Stage.Baseline policy.now (option_copied after.entry.baseline) (option_copied result.baseline) }
+    ensures isolated { result.isolated ≡ (isolates_own (maps_of asked.now.held.now) asked.now.question.now policy.now || after.entry.isolated) }
 {
     if applies(asked, policy) {
-        first_of_applying(asked, policy, stage, after)
+        found_in_applying(asked, policy, after)
     } else {
         after
     }
 }
 
-/// The first of the rules of the stage that match the question.
-pub(crate) fn first_rule<'h>(asked: &Asked<'h, '_>, stage: Stage) -> Option<&'h NetRule>
-    ensures { option_copied result ≡ first net_rule_key (held_rules_with (maps_of asked.now.held.now) asked.now.question.now stage) }
+/// What is found in all held policies. Each is looked at once.
+pub(crate) fn find_rules<'h>(asked: &Asked<'h, '_>) -> Findings<'h>
+    ensures native { option_copied result.native ≡ first net_rule_key (held_rules_with (maps_of asked.now.held.now) asked.now.question.now Stage.Native) }
+    ensures kubernetes { option_copied result.kubernetes ≡ first net_rule_key (held_rules_with (maps_of asked.now.held.now) asked.now.question.now Stage.Kubernetes) }
+    ensures baseline { option_copied result.baseline ≡ first net_rule_key (held_rules_with (maps_of asked.now.held.now) asked.now.question.now Stage.Baseline) }
+    ensures isolated { result.isolated ≡ held_isolated (maps_of asked.now.held.now) asked.now.question.now }
 {
     let policies = asked.held.policies().as_slice();
-    let mut found = None;
+    let mut found = Findings {
+        native: None,
+        kubernetes: None,
+        baseline: None,
+        isolated: false,
+    };
     for i in (0..policies.len()).rev() {
-        found = first_of_policy(asked, &policies[i], stage, found);
+        found = found_in(asked, &policies[i], found);
     }
     found
 }
 
+// Whether it is a Kubernetes policy with the direction.
 fn isolates(policy: &NetPolicy, dir: Dir) -> bool
-    ensures { result ≡ net_isolates policy.now dir }
+    ensures { result ≡ (is_kube policy.now.key.kind && net_isolates policy.now dir) }
 {
-    match dir {
+    let has_direction = match dir {
         Dir::Ingress => policy.isolates_in,
         Dir::Egress => policy.isolates_out,
-    }
-}
-
-/// Whether a held Kubernetes policy isolates the question's own address in its direction.
-pub(crate) fn is_isolated(asked: &Asked) -> bool
-    ensures { result ≡ held_isolated (maps_of asked.now.held.now) asked.now.question.now }
-{
-    asked.held.policies().as_slice().iter().any(|policy| {
-        is_kube(policy.key.kind) && isolates(policy, asked.question.dir) && applies(asked, policy)
-    })
+    };
+    is_kube(policy.key.kind) && has_direction
 }

@@ -1,13 +1,16 @@
-ghost use Rattle.std.specs.Prelude.{◌≡◌, [], ℕ, ◌+◌, List as Items, length, IfOk, option_copied};
-ghost use Rattle.cl_types.specs.Ascending.{Ascends, found};
+ghost use Rattle.std.specs.Prelude.{◌≡◌, [], ℕ, ◌+◌, List as Items, length, IfErr, IfOk, option_copied};
+ghost use Rattle.cl_types.specs.Ascending.{Ascends, IsGap, IsPlace, found};
 ghost use Rattle.cl_types.specs.Text.{text_order};
 ghost use Rattle.held_maps.specs.Held.{policy_title, egress_title};
-ghost use Rattle.watch_streams.specs.Names.{object_text};
+ghost use Rattle.label_select.specs.Written.{group_text};
+ghost use Rattle.watch_streams.specs.Names.{at_text, object_text};
 ghost use Rattle.held_maps.specs.Rows.{HasRows, IsRoom};
 
 use crate::rows::Rows;
 use cl_types::{Copies, List, NoMemory, Text, search};
+use label_select::{GroupKey, compare_group};
 use std::alloc::Global;
+use std::cmp::Ordering;
 use std::marker::Model;
 use watch_streams::{NetEgress, NetPolicy, StreamObject};
 
@@ -36,6 +39,26 @@ fn copy_texts(texts: &Vec<Text>) -> Result<Vec<Text>, NoMemory>
         copy.push(text.copy()?)?;
     }
     Ok(copy)
+}
+
+// How the text stands to that of the group.
+fn order_at(title: &Text, g: &GroupKey) -> Ordering
+    ensures { result ≡ text_order title.now (group_text g.now) }
+{
+    compare_group(g, title).reverse()
+}
+
+// The place of the group's text, or where to insert it.
+fn search_group(titles: &[Text], g: &GroupKey) -> Result<usize, usize>
+    requires { Ascends (λ t. t) text_order titles.now }
+    ensures found { IfOk result (IsPlace (λ t. text_order t (group_text g.now)) titles.now) }
+    ensures absent { IfErr result (IsGap (λ t. text_order t (group_text g.now)) titles.now) }
+{
+    titles.binary_search_by(
+        |title: &Text| -> Ordering
+            ensures { result ≡ text_order title.now (group_text g.entry.now) }
+        { order_at(title, g) },
+    )
 }
 
 /// Objects in the order of their texts, which are kept beside them.
@@ -110,6 +133,18 @@ impl<T: Titled> Shelf<T> {
     {
         let _ = rows.titles.append(&mut self.titles);
         let _ = rows.objects.append(self.objects.vec_mut());
+    }
+}
+
+impl Shelf<StreamObject> {
+    /// What stands under the text of the group. It does not allocate.
+    pub(crate) fn find_group(&self, g: &GroupKey) -> Option<&StreamObject>
+        ensures { option_copied result ≡ found (at_text (group_text g.now)) self.now }
+    {
+        match search_group(self.titles.as_slice(), g) {
+            Ok(i) => Some(&self.objects.as_slice()[i]),
+            Err(_) => None,
+        }
     }
 }
 

@@ -1,4 +1,5 @@
 pub mod CanonicalNeeds
+pub mod Compared
 pub mod FormBytes
 pub mod GroupTexts
 pub mod Listings

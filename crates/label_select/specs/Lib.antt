@@ -1,4 +1,5 @@
 pub mod Canonical
+pub mod Comparing
 pub mod Forms
 pub mod Group
 pub mod Selection

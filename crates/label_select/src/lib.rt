@@ -2,6 +2,7 @@
 #![tactic(auto)]
 
 mod canonical;
+mod comparing;
 mod forms;
 mod group;
 mod labels;
@@ -10,6 +11,7 @@ mod selector;
 mod written;
 
 pub use canonical::canon;
+pub use comparing::compare_group;
 pub use forms::{
     are_label_values, is_label_key, is_label_value, is_namespace_name, is_object_name,
     names_have_no_slash,

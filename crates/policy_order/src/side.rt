@@ -4,19 +4,20 @@ ghost use Rattle.cl_types.specs.Text.{text_eq};
 ghost use Rattle.cluster_types.specs.Evaluation.{side_of, pod_on, side};
 
 use crate::asked::{Asked, ask};
-use crate::rules::{first_rule, is_isolated};
+use crate::rules::find_rules;
 use cl_types::{Addr, Judged, Question, Text};
-use cluster_objects::{Cluster, Pod, Stage, allowed_by_default, allowed_first, decided_first};
+use cluster_objects::{Cluster, Pod, allowed_by_default, allowed_first, decided_first};
 
 fn judge_pod<'c>(asked: &Asked<'c, '_>) -> Judged<'c>
     ensures { judgement_of result ≡ side_of asked.now.cluster.now.cluster asked.now.pod.now asked.now.question.now }
 {
-    let otherwise = if is_isolated(asked.cluster, asked.pod, asked.question.dir) {
-        allowed_first(first_rule(asked, Stage::Kubernetes))
+    let found = find_rules(asked);
+    let otherwise = if found.isolated {
+        allowed_first(found.kubernetes)
     } else {
-        decided_first(first_rule(asked, Stage::Baseline), allowed_by_default())
+        decided_first(found.baseline, allowed_by_default())
     };
-    decided_first(first_rule(asked, Stage::Native), otherwise)
+    decided_first(found.native, otherwise)
 }
 
 fn is_on(pod: &Pod, node: &Text) -> bool

@@ -1,5 +1,5 @@
 //! How what belongs on a stream of a node changes.
-ghost use Rattle.std.specs.Prelude.{◌≡◌, ◌++◌, ◌∷◌, [], cond, not, map, IfOk, OnOk, option_copied, Some};
+ghost use Rattle.std.specs.Prelude.{◌≡◌, ◌++◌, map, IfOk, OnOk, option_copied, Some};
 ghost use Rattle.std.specs.List.{flat_map};
 ghost use Rattle.cl_types.specs.Ascending.{Ascends, found};
 ghost use Rattle.cl_types.specs.Equality.{is_same};
@@ -7,9 +7,10 @@ ghost use Rattle.cl_types.specs.Text.{text_order};
 ghost use Rattle.watch_streams.specs.declared.net.NetEgress as egress;
 ghost use Rattle.watch_streams.specs.declared.net.NetPolicy as policy;
 ghost use Rattle.watch_streams.specs.declared.message.StreamObject.TheVariants as object;
-ghost use Rattle.watch_streams.specs.Difference.{all_texts, changed, difference, has_member, members_without, patch, replaced, unless_same};
+ghost use Rattle.watch_streams.specs.Difference.{all_texts, changed, difference, members_without, patch, replaced, unless_same};
 ghost use Rattle.watch_streams.specs.Names.{AscendByName, at_text, name_of, object_text};
 
+use crate::members::members_without;
 use crate::named::{Named, name_all};
 use cl_types::{Copies, List, NoMemory, Same, Text, find};
 use label_select::GroupKey;
@@ -18,40 +19,6 @@ use watch_streams::{
     Changes, HeldMember, NetEgress, NetPolicy, Objects, StreamChange, StreamName, StreamObject,
     sorted as sorted_items,
 };
-
-fn has_member(members: &[HeldMember], m: &HeldMember) -> bool
-    ensures { result ≡ has_member members.now m.now }
-{
-    members.iter().any(|n| n.cmp(m).is_eq())
-}
-
-// The member, where the others lack it.
-fn push_lacking(
-    lacking: &mut Vec<HeldMember>,
-    m: &HeldMember,
-    others: &[HeldMember],
-) -> Result<(), NoMemory>
-    ensures { OnOk result (lacking.new.items ≡ lacking.old.items ++ cond (not (has_member others.now m.now)) (m.now ∷ []) []) }
-{
-    if !has_member(others, m) {
-        lacking.push(m.copy()?)?;
-    }
-    Ok(())
-}
-
-fn members_without(
-    alloc: Global,
-    members: &[HeldMember],
-    others: &[HeldMember],
-) -> Result<Vec<HeldMember>, NoMemory>
-    ensures { IfOk result (λ lacking. lacking.items ≡ members_without members.now others.now) }
-{
-    let mut lacking = Vec::new(alloc);
-    for m in members {
-        push_lacking(&mut lacking, m, others)?;
-    }
-    Ok(lacking)
-}
 
 fn push_if_any(
     changes: &mut Vec<StreamChange>,
@@ -143,21 +110,30 @@ fn name_of(object: &StreamObject) -> Result<StreamName, NoMemory>
     }
 }
 
-// The change under one name, where there is one.
-fn push_changed(
+/// Appends the change under one name, where there is one. The objects have the same name.
+pub fn push_change(
     changes: &mut Vec<StreamChange>,
-    old: Option<&Named>,
-    new: Option<&Named>,
+    old: Option<&StreamObject>,
+    new: Option<&StreamObject>,
 ) -> Result<(), NoMemory>
     ensures { OnOk result (changes.new.items ≡ changes.old.items ++ changed (option_copied old.entry) (option_copied new.entry)) }
 {
     match (old, new) {
         (None, None) => {}
-        (Some(old), None) => changes.push(StreamChange::Remove(name_of(old.object())?))?,
-        (None, Some(new)) => changes.push(StreamChange::Put(new.object().copy()?))?,
-        (Some(old), Some(new)) => push_replaced(changes, old.object(), new.object())?,
+        (Some(old), None) => changes.push(StreamChange::Remove(name_of(old)?))?,
+        (None, Some(new)) => changes.push(StreamChange::Put(new.copy()?))?,
+        (Some(old), Some(new)) => push_replaced(changes, old, new)?,
     }
     Ok(())
+}
+
+fn object_of<'a>(named: Option<&'a Named>) -> Option<&'a StreamObject>
+    ensures { option_copied result ≡ option_copied named.entry }
+{
+    match named {
+        Some(named) => Some(named.object()),
+        None => None,
+    }
 }
 
 fn push_texts(texts: &mut Vec<Text>, objects: &[Named]) -> Result<(), NoMemory>
@@ -190,7 +166,11 @@ fn push_changed_at(
     requires new { AscendByName new.now }
     ensures { OnOk result (changes.new.items ≡ changes.old.items ++ changed (found (at_text text.now) old.now) (found (at_text text.now) new.now)) }
 {
-    push_changed(changes, find(old, text), find(new, text))
+    push_change(
+        changes,
+        object_of(find(old, text)),
+        object_of(find(new, text)),
+    )
 }
 
 fn push_all_changed(

@@ -5,13 +5,14 @@
 mod changes;
 mod groups;
 mod laws;
+mod members;
 mod named;
 mod net;
 
-pub use changes::changes_between;
+pub use changes::{changes_between, push_change};
 pub use groups::{copy_groups, policy_groups};
 pub use laws::{
     one_revision_is_the_policies_verdict, parts_are_streams, streams_begin_empty, streams_go_on,
 };
-pub use named::{groups_by_text, sorted_by_name};
+pub use named::{TitledName, groups_by_text, names_by_text, sorted_by_name};
 pub use net::{net_egress, net_policy};

@@ -1,15 +1,18 @@
 //! Things in the order of their texts, which are kept beside them.
 ghost use Rattle.std.specs.Prelude.{◌≡◌, ◌++◌, map, IfOk, OnOk};
 ghost use Rattle.cl_types.specs.Ascending.{sorted_by};
+ghost use Rattle.cl_types.specs.Text.{text_order};
+ghost use Rattle.cl_types.specs.Written.{policy_text};
 ghost use Rattle.label_select.specs.Written.{group_text};
+ghost use Rattle.watch_streams.specs.declared.message.StreamName.TheVariants as title;
 ghost use Rattle.watch_streams.specs.Names.{by_name, name_text, name_of, object_text};
 ghost use Rattle.watch_streams.specs.Projection.{groups_by_text};
 
-use cl_types::{Keyed, List, NoMemory, Text, write_bytes, write_policy};
+use cl_types::{Keyed, List, NoMemory, PolicyKey, Text, write_bytes, write_policy};
 use label_select::{GroupKey, write_group};
 use std::alloc::Global;
 use std::marker::Model;
-use watch_streams::{StreamObject, sorted as sorted_items};
+use watch_streams::{StreamName, StreamObject, sorted as sorted_items};
 
 /// An object with the text of its name.
 #[derive(Drop)]
@@ -40,20 +43,50 @@ impl Keyed for Named {
     }
 }
 
+fn policy_title(alloc: Global, key: &PolicyKey) -> Result<Text, NoMemory>
+    ensures { IfOk result (λ text. text ≡ policy_text key.now) }
+{
+    let mut text = Text::new(alloc);
+    write_policy(&mut text, key)?;
+    Ok(text)
+}
+
+fn egress_title(alloc: Global, name: &Text) -> Result<Text, NoMemory>
+    ensures { IfOk result (λ text. text ≡ name_text (title.Egress name.now)) }
+{
+    let mut text = Text::new(alloc);
+    write_bytes(&mut text, b"egress:")?;
+    write_bytes(&mut text, name.as_slice())?;
+    Ok(text)
+}
+
+fn group_title(alloc: Global, group: &GroupKey) -> Result<Text, NoMemory>
+    ensures { IfOk result (λ text. text ≡ group_text group.now) }
+{
+    let mut text = Text::new(alloc);
+    write_group(&mut text, group)?;
+    Ok(text)
+}
+
 // The text of the object's name.
 fn text_of(alloc: Global, object: &StreamObject) -> Result<Text, NoMemory>
     ensures { IfOk result (λ text. text ≡ object_text object.now) }
 {
-    let mut text = Text::new(alloc);
     match object {
-        StreamObject::Policy(policy) => write_policy(&mut text, &policy.key)?,
-        StreamObject::Egress(egress) => {
-            write_bytes(&mut text, b"egress:")?;
-            write_bytes(&mut text, egress.name.as_slice())?;
-        }
-        StreamObject::Group { group, .. } => write_group(&mut text, group)?,
+        StreamObject::Policy(policy) => policy_title(alloc, &policy.key),
+        StreamObject::Egress(egress) => egress_title(alloc, &egress.name),
+        StreamObject::Group { group, .. } => group_title(alloc, group),
     }
-    Ok(text)
+}
+
+fn title_of(alloc: Global, name: &StreamName) -> Result<Text, NoMemory>
+    ensures { IfOk result (λ text. text ≡ name_text name.now) }
+{
+    match name {
+        StreamName::Policy(key) => policy_title(alloc, key),
+        StreamName::Egress(name) => egress_title(alloc, name),
+        StreamName::Group(group) => group_title(alloc, group),
+    }
 }
 
 impl Named {
@@ -118,9 +151,10 @@ impl Titled {
     fn of(alloc: Global, group: GroupKey) -> Result<Titled, NoMemory>
         ensures { IfOk result (λ titled. titled ≡ group) }
     {
-        let mut text = Text::new(alloc);
-        write_group(&mut text, &group)?;
-        Ok(Titled { text, group })
+        Ok(Titled {
+            text: group_title(alloc, &group)?,
+            group,
+        })
     }
 
     fn into_group(self) -> GroupKey
@@ -190,4 +224,68 @@ pub fn sorted_by_name(
 {
     let named = name_all(alloc, objects)?;
     into_objects(alloc, sorted_items(alloc, named)?)
+}
+
+/// A name with its text.
+#[derive(Drop)]
+pub struct TitledName {
+    text: Text,
+    name: StreamName,
+}
+
+impl Model for TitledName {
+    ghost use Rattle.std.specs.Prelude.{◌≡◌};
+    ghost use Rattle.watch_streams.specs.declared.message.StreamName.{StreamName as Name};
+    ghost use Rattle.watch_streams.specs.Names.{name_text};
+
+    ghost Value = { Name };
+
+    ghost view = { λ t. t.name };
+
+    ghost invariant = { λ t. t.text ≡ name_text t.name };
+}
+
+impl Keyed for TitledName {
+    type Key = Text;
+
+    ghost key = { name_text };
+
+    fn key(&self) -> &Text {
+        &self.text
+    }
+}
+
+impl TitledName {
+    fn of(alloc: Global, name: StreamName) -> Result<TitledName, NoMemory>
+        ensures { IfOk result (λ titled. titled ≡ name) }
+    {
+        Ok(TitledName {
+            text: title_of(alloc, &name)?,
+            name,
+        })
+    }
+
+    pub fn name(&self) -> &StreamName
+        ensures { result.now ≡ self.now }
+    {
+        &self.name
+    }
+}
+
+fn with_titles(alloc: Global, names: Vec<StreamName>) -> Result<Vec<TitledName>, NoMemory>
+    ensures { IfOk result (λ titled. titled.items ≡ names.items) }
+{
+    let mut titled = Vec::new(alloc);
+    for name in names {
+        titled.push(TitledName::of(alloc, name)?)?;
+    }
+    Ok(titled)
+}
+
+/// The names in the order of their texts, none twice.
+pub fn names_by_text(alloc: Global, names: Vec<StreamName>) -> Result<Vec<TitledName>, NoMemory>
+    ensures { IfOk result (λ sorted. sorted.items ≡ sorted_by name_text text_order names.items) }
+{
+    let titled = with_titles(alloc, names)?;
+    sorted_items(alloc, titled)
 }

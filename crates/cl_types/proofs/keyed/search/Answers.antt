@@ -1,6 +1,6 @@
 use Rattle.std.proofs.Common.{rules}
 use Rattle.std.proofs.lemmas.Fn.{always_returns_same}
-use Rattle.cl_types.proofs.AscendingLists.{searched}
+use Rattle.cl_types.specs.SearchLaws.{searched}
 use Rattle.cl_types.proofs.keyed.search.Goals as goal
 
 pub returns-clause-found : goal.returns-clause-found

@@ -8,6 +8,7 @@ pub loop-change-init : goal.loop-change-init
 loop-change-init c = record {
   leads = (false, came_first (after c.args.side.now.cluster.cluster c.args.changes.now));
   nodes = record { nodes = refl; fixed = c.requires.fixed };
+  touched = λ start same. same;
   counted = c.requires.counted;
 }
 
@@ -23,6 +24,7 @@ loop-change-preserved c =
             ∙ c.loop-change.invariant.leads.1)),
       );
       nodes = nodes_on _ _ _ c.loop-change.invariant.nodes c.in-Ok.ensures.nodes;
+      touched = λ start same. c.in-Ok.ensures.touched start (c.loop-change.invariant.touched start same);
       counted = c.in-Ok.ensures.counted;
     }
 
@@ -35,3 +37,6 @@ returns-clause-leads c =
           sym c.loop-change.invariant.leads.1
           ∙ at_drop_all (λ xs. came_after d (after c.loop-change.side.cluster.cluster xs)) c.args.changes.now c.loop-change.change-index (omega (arith, c.loop-change-test.false));
     }
+
+pub returns-clause-touched : goal.returns-clause-touched
+returns-clause-touched c = c.loop-change.invariant.touched

@@ -1,5 +1,5 @@
 use Rattle.ctl_core.proofs.Counting.{is_moved}
 use Rattle.ctl_core.proofs.following.namespace_moved.Goals as goal
 
-pub returns : goal.returns
-returns c = is_moved c.args.c.now.cluster c.args.index.now c.namespace_changed.new.self c.in_ok-namespace_changed.ensures.index c.in_ok-namespace_changed.ensures.stands
+pub returns-clause-moved : goal.returns-clause-moved
+returns-clause-moved c = is_moved c.args.c.now.cluster c.args.index.now c.namespace_changed.new.self c.in_ok-changes.ensures.index c.in_ok-changes.ensures.stands

@@ -5,5 +5,5 @@ use Rattle.group_index.specs.Settled.{addresses_if}
 use Rattle.group_index.proofs.concern.namespace_addresses.Given as goal
 
 -- those of the pods so far
-abbrev pub invariant-loop-pod : goal.invariant-loop-pod
-invariant-loop-pod l = l.addresses.items ≡ flat_map (addresses_if (option_copied l.old) l.name) (take l.pod-index l.pods)
+abbrev pub invariant-loop-i : goal.invariant-loop-i
+invariant-loop-i l = l.addresses.items ≡ flat_map (addresses_if (option_copied l.old) l.name) (take l.i l.pods)

@@ -1,17 +1,21 @@
-use Rattle.std.proofs.Common.{◌<◌, length, ap, sym, ◌∙◌, arith}
+use Rattle.std.proofs.Common.{◌<◌, ◌∙◌, length, ap, subst, sym}
 use Rattle.std.proofs.lemmas.List.{length-set}
+use Rattle.std.specs.List.{AllByRecursion}
+use Rattle.group_index.specs.declared.draft.Draft.{Draft}
 use Rattle.group_index.specs.Settled.{settled_by}
-use Rattle.group_index.proofs.Settling.{room_left, settled_next}
+use Rattle.group_index.proofs.Settling.{all_less, settled_here, settled_last}
 use Rattle.group_index.proofs.draft.settle.Goals as goal
 
 pub loop-draft-preserved : goal.loop-draft-preserved
 loop-draft-preserved c =
-    let left : length c.pop.new.self.items < length c.loop-draft.entries.items =
-    room_left c.loop-draft.drafts.items c.pop.new.self.items c.in-Some.draft (length c.loop-draft.entries.items) c.in-Some.ensures.items c.loop-draft.invariant.within in
+    let draft = c.in-Some.draft in
+    let left = c.pop.new.self.items in
+    let entries = c.loop-draft.entries.items in
+    let both = all_less (λ (d : Draft). d.place < length entries) left draft (subst (AllByRecursion (λ (d : Draft). d.place < length entries)) c.in-Some.ensures.items c.loop-draft.invariant.within) in
     record {
       same =
-          settled_next c.pop.new.self.items c.in-Some.draft c.loop-draft.entries.items c.len.result c.index_mut.result.now c.settle.new.self
-          left (c.len.ensures ∙ c.pop.new.self.ok.0) c.index_mut.ensures.value c.settle.ensures
-          ∙ (ap (λ drafts. settled_by drafts c.loop-draft.entries.items) (sym c.in-Some.ensures.items) ∙ c.loop-draft.invariant.same);
-      within = rw (length-set c.loop-draft.entries.items c.len.result c.settle.new.self) (omega (arith, left));
+          ap (settled_by left) (settled_here draft.place draft.members entries c.index_mut.result.now c.settle.new.self both.1 c.index_mut.ensures.value c.settle.ensures)
+          ∙ (sym (settled_last left draft entries)
+          ∙ (ap (λ drafts. settled_by drafts entries) (sym c.in-Some.ensures.items) ∙ c.loop-draft.invariant.same));
+      within = subst (λ n. AllByRecursion (λ (d : Draft). d.place < n) left) (sym (length-set entries draft.place c.settle.new.self)) both.0;
     }

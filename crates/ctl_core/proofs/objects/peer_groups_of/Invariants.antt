@@ -1,8 +1,0 @@
-use Rattle.std.proofs.Common.{◌≡◌, take}
-use Rattle.std.specs.List.{flat_map}
-use Rattle.ctl_core.specs.Indexed.{peer_groups_on}
-use Rattle.ctl_core.proofs.objects.peer_groups_of.Given as goal
-
--- what the policies so far add
-abbrev pub invariant-loop-policy : goal.invariant-loop-policy
-invariant-loop-policy l = l.found.items ≡ flat_map (peer_groups_on l.groups l.node) (take l.policy-index l.policies)

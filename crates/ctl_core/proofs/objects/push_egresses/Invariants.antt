@@ -1,8 +1,0 @@
-use Rattle.std.proofs.Common.{◌≡◌, ◌++◌, take}
-use Rattle.std.specs.List.{flat_map}
-use Rattle.ctl_core.specs.Indexed.{egress_objects}
-use Rattle.ctl_core.proofs.objects.push_egresses.Given as goal
-
--- what the Egresses so far add
-abbrev pub invariant-loop-egress : goal.invariant-loop-egress
-invariant-loop-egress l = l.found.items ≡ l.initial.found.items ++ flat_map (egress_objects l.c.cluster l.groups l.node) (take l.egress-index l.egresses)

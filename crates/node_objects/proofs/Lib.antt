@@ -1,0 +1,3 @@
+mod Concerns
+mod Indexes
+mod UnderNames

@@ -1,0 +1,4 @@
+pub mod Indexed
+pub mod SideLaws
+pub mod Sides
+pub mod UnderName

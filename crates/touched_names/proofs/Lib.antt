@@ -1,0 +1,12 @@
+pub mod Brought
+pub mod Elsewhere
+pub mod Groups
+pub mod Itself
+pub mod Kept
+pub mod Moved
+pub mod NameForms
+pub mod NameTexts
+pub mod Over
+pub mod Placed
+pub mod Spans
+pub mod Under
