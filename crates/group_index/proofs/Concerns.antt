@@ -13,8 +13,8 @@ use Rattle.cl_types.specs.declared.keys.PodKey.{PodKey}
 use Rattle.cl_types.specs.Addr.{addr_eq, addr_order_total}
 use Rattle.cl_types.specs.AddrEq.{addr_eq-one, addr_eq_by_order}
 use Rattle.cl_types.specs.Ascending.{Ascends, found, put, without}
-use Rattle.cl_types.specs.AscendingLaws.{found_put, found_without, none_behind, passed}
-use Rattle.cl_types.specs.OrderLaws.{text_eq-cmp, text_eq-one}
+use Rattle.cl_types.specs.AscendingLaws.{found_at, found_put, found_without, none_behind, passed}
+use Rattle.cl_types.specs.OrderLaws.{pod_order_exact, text_eq-cmp, text_eq-one}
 use Rattle.cl_types.specs.RuleOrder.{pod_order_total}
 use Rattle.cl_types.specs.Text.{text_eq, text_order, text_order_total}
 use Rattle.label_select.specs.declared.group.Scope.{Scope}
@@ -28,8 +28,9 @@ use Rattle.cluster_types.specs.Node.{NamespaceData}
 use Rattle.cluster_types.specs.Pod.{PodData, counts, has_address}
 use Rattle.group_index.specs.Changes.{at_namespace, at_pod, before_namespace, before_pod, namespaces_before, pods_before}
 use Rattle.group_index.specs.Members.{MemberData, by_address, member_of, members_of}
-use Rattle.group_index.specs.Settled.{addresses_if, addresses_of, addresses_where, at_address, contains, follows_labels, has_either, is_concerned, is_selector, is_stray, namespace_addresses, pod_addresses, pod_now}
-use Rattle.group_index.proofs.Settling.{AreAlike, address_of}
+use Rattle.group_index.specs.Settled.{ShareNamespace, addresses_if, addresses_of, addresses_where, at_address, can_contain, contains, follows_labels, has_either, is_concerned, is_named, is_of_pods, is_selector, is_stray, namespace_addresses, pod_addresses, pod_now}
+use Rattle.group_index.proofs.Editing.{address_of}
+use Rattle.group_index.proofs.Settling.{AreAlike}
 
 and_false : (b : Bool) → b && false ≡ false
 and_false true = refl
@@ -187,6 +188,34 @@ pub pod_leaves : (c : ClusterData) → IsCluster c → (old new : Option PodData
 pod_leaves c whole old new = λ g a off.
     first_member (before_pod old new c) g a
     ∙ (ap (option_map (λ p. member_of p a)) (find_same c whole g a old new off) ∙ sym (first_member c g a))
+
+-- the pod that is there now is at the key of the one that was there
+pub share_namespace : (old new : Option PodData) (pods : List PodData) → ShareNamespace old (pod_now old new pods)
+share_namespace (Some p) new pods = by_found (found (at_pod p.key) pods) refl
+  where
+    by_found : (o : Option PodData) → found (at_pod p.key) pods ≡ o → ShareNamespace (Some p) o
+    by_found (Some q) is = ap (λ k. k.namespace) (pod_order_exact q.key p.key (found_at (at_pod p.key) pods q is))
+    by_found None is = tt
+share_namespace None new pods = tt
+
+-- a group whose scope isn't the pod's namespace, and no selector, doesn't contain the pod
+out_of_scope : (c : ClusterData) (g : Group) (p : PodData) → is_named p.key.namespace g.scope ≡ false → is_selector g.scope ≡ false → in_group c g p ≡ false
+out_of_scope c g p other chosen = ap (λ b. counts p && (b && selects g.pods p.labels)) (by_scope g.scope other chosen) ∙ and_false (counts p)
+  where
+    by_scope : (s : Scope) → is_named p.key.namespace s ≡ false → is_selector s ≡ false → in_scope s p.key.namespace (ns_labels c p.key.namespace) ≡ false
+    by_scope (Namespace name) other chosen = other
+    by_scope (Namespaces selector) other chosen = cc
+
+pub contains_neither : (c : ClusterData) (g : Group) (old now : Option PodData) → ShareNamespace old now → can_contain old now g.scope ≡ false → has_either c old now g ≡ false
+contains_neither c g old now share off = by_pods old now share (neither (is_of_pods old now g.scope) (is_selector g.scope) off)
+  where
+    by_pods : (old now : Option PodData) → ShareNamespace old now → (is_of_pods old now g.scope ≡ false) × (is_selector g.scope ≡ false) → has_either c old now g ≡ false
+    by_pods (Some p) (Some q) share both =
+        ap (λ b. b || in_group c g q) (out_of_scope c g p both.0 both.1)
+        ∙ out_of_scope c g q (subst (λ t. is_named t g.scope ≡ false) (sym share) both.0) both.1
+    by_pods (Some p) None share both = ap (λ b. b || false) (out_of_scope c g p both.0 both.1)
+    by_pods None (Some q) share both = out_of_scope c g q both.0 both.1
+    by_pods None None share both = refl
 
 -- ---- a namespace that changed
 

@@ -1,17 +1,11 @@
 -- The members of a list's first pods, and those of the pods that a group contains.
-use Rattle.std.proofs.Common.{◌≡◌, ◌+◌, ◌<◌, ℕ, List, [], ◌∷◌, ◌++◌, Bool, true, false, length, get_or, take, map, filter, cond, if◌then◌else◌, refl, ap, ◌∙◌}
+use Rattle.std.proofs.Common.{◌≡◌, List, [], ◌∷◌, ◌++◌, Bool, true, false, map, filter, cond, if◌then◌else◌, refl, ap}
 use Rattle.std.specs.List.{flat_map}
-use Rattle.std.proofs.lemmas.List.{take_more, append-nil}
-use Rattle.std.proofs.lemmas.Grind.{flat_map-append}
 use Rattle.label_select.specs.Group.{Group}
 use Rattle.cluster_types.specs.Pod.{PodData}
 use Rattle.cluster_types.specs.Cluster.{ClusterData}
 use Rattle.cluster_types.specs.Groups.{in_group, members_by}
-use Rattle.group_index.specs.Members.{MemberData, member_of}
-
--- the pod's members, where the group contains it
-abbrev pub members_if : ClusterData → Group → PodData → List MemberData
-members_if c g p = if in_group c g p then map (member_of p) p.addresses else []
+use Rattle.group_index.specs.Members.{member_of, members_if}
 
 flat_kept : {A B : Type 0} (f : A → List B) (k : A → Bool) (xs : List A) → flat_map (λ x. if k x then f x else []) xs ≡ flat_map f (filter k xs)
 flat_kept f k [] = refl
@@ -24,9 +18,3 @@ flat_kept f k (x ∷ xs) = by_test (k x) (flat_kept f k xs)
 
 pub members_if-all : (c : ClusterData) (g : Group) → flat_map (members_if c g) c.pods ≡ members_by member_of c g
 members_if-all c g = flat_kept (λ (p : PodData). map (member_of p) p.addresses) (in_group c g) c.pods
-
--- one more
-pub flat_next : {A B : Type 0} (f : A → List B) (xs : List A) (i : ℕ) (d : A) → i < length xs → flat_map f (take (i + 1) xs) ≡ flat_map f (take i xs) ++ f (get_or xs i d)
-flat_next f xs i d h =
-    ap (flat_map f) (take_more xs i d h)
-    ∙ (flat_map-append f (take i xs) (get_or xs i d ∷ []) ∙ ap (λ ys. flat_map f (take i xs) ++ ys) (append-nil (f (get_or xs i d))))

@@ -4,6 +4,8 @@ pub mod Uses
 pub mod Turns
 pub mod Unchanged
 pub mod Stretches
+pub mod Scopes
+pub mod Editing
 pub mod Settling
 pub mod Concerns
 pub mod Standing

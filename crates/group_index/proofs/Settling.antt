@@ -1,17 +1,17 @@
 -- Members that move at some addresses: what is found at each address, and what changes.
-use Rattle.std.proofs.Common.{◌≡◌, ◌<◌, ◌+◌, ◌++◌, ℕ, zero, suc, List, [], ◌∷◌, length, get_or, set, drop, take, Bool, true, false, ◌||◌, not, Option, Some, None, if◌then◌else◌, refl, sym, ap, subst, ◌∙◌, arith}
-use Rattle.std.specs.List.{AllByRecursion, flat_map}
+use Rattle.std.proofs.Common.{◌≡◌, ◌<◌, ◌≤◌, ◌++◌, ℕ, zero, suc, List, [], ◌∷◌, length, get_or, set, take, Bool, true, false, ◌||◌, not, Option, Some, None, if◌then◌else◌, refl, sym, ap, subst, ◌∙◌, arith}
+use Rattle.std.specs.List.{AllByRecursion, AllWithin, flat_map}
 use Rattle.std.proofs.lemmas.Grind.{flat_map-append}
-use Rattle.std.proofs.lemmas.List.{append-nil, append_assoc, drop_more, length-append, length-take-le, take_more}
+use Rattle.std.proofs.lemmas.List.{append-nil, append_assoc, take_all}
 use Rattle.std.proofs.lemmas.List.Elements.{All-from_recursion}
-use Rattle.std.specs.Option.{option_to_list, unwrap_or}
+use Rattle.std.specs.Option.{option_to_list}
 use Rattle.std.specs.Ordering.{is_eq}
 use Rattle.std.specs.declared.cmp.Ordering.TheVariants.{Less}
 use Rattle.cl_types.specs.declared.addr.Addr.{Addr}
 use Rattle.cl_types.specs.Addr.{addr_eq, addr_order, addr_order_total}
 use Rattle.cl_types.specs.AddrEq.{addr_eq-one, addr_eq_by_order}
 use Rattle.cl_types.specs.Ascending.{found}
-use Rattle.cl_types.specs.AscendingLaws.{ascends_filter, ascends_put, ascends_sorted, ascends_without, equal_maps, found_at, found_filter, found_holds, found_put, found_without, passed}
+use Rattle.cl_types.specs.AscendingLaws.{ascends_filter, ascends_sorted, equal_maps, found_at, found_filter, found_holds, found_put, passed}
 use Rattle.cl_types.specs.ListLaws.{all_weaker}
 use Rattle.cl_types.specs.OrderLaws.{addr_order_exact}
 use Rattle.cl_types.specs.Text.{text_order}
@@ -20,15 +20,17 @@ use Rattle.cluster_types.specs.Cluster.{ClusterData}
 use Rattle.label_select.specs.Group.{Group}
 use Rattle.group_index.specs.declared.draft.Draft.{Draft}
 use Rattle.group_index.specs.declared.draft.Drafts.{Drafts}
+use Rattle.group_index.specs.declared.moves.Edit.{Edit}
+use Rattle.group_index.specs.declared.moves.Moves.{Moves}
+use Rattle.group_index.specs.declared.stretch.Stretch.{Stretch}
+use Rattle.group_index.specs.declared.stretch.Stretches.{Stretches}
 use Rattle.group_index.specs.ChangeLaws.{found_member, members_ascend}
 use Rattle.group_index.specs.Changes.{at_cluster, change_at, change_if_any, entry_at, group_change, has_member, members_without}
 use Rattle.group_index.specs.Index.{EntryData, IsIndex, StandsFor, entry_text}
 use Rattle.group_index.specs.Members.{MemberData, by_address, members_of}
-use Rattle.group_index.specs.Settled.{AreDrafts, AscendByAddress, DiffersAt, MovesAt, Stays, addresses_where, at_address, draft_at, here_at, picked, settled_at, settled_by, with_at, with_members}
+use Rattle.group_index.specs.Settled.{AreDrafts, AreStretches, AscendByAddress, DiffersAt, Fits, FitsAt, FitsIf, HavePlaces, IsStretch, MovesAt, Stays, addresses_where, at_address, draft_at, edited_by, here_at, moved_if, picked, settled_at, settled_by, with_members}
+use Rattle.group_index.proofs.Editing.{address_of}
 use Rattle.group_index.proofs.Unchanged.{all_there, unchanged}
-
-abbrev pub address_of : MemberData → Addr
-address_of m = m.address
 
 nothing : (b : Bool) → (let none : Option MemberData = None in if b then none else none) ≡ None
 nothing true = refl
@@ -58,38 +60,6 @@ found_picked ms (a ∷ addresses) b = by_found (found (at_address a) ms) refl (a
     by_found (Some m) is false same later =
         found_put address_of addr_order_total b m (picked addresses ms)
         ∙ (ap (λ v. if v then Some m else found (at_address b) (picked addresses ms)) (test m is ∙ same) ∙ later)
-
--- with the new member at an address, the others differ at the other addresses alone
-pub differs_less : (a : Addr) (addresses : List Addr) (ms new : List MemberData) → DiffersAt (a ∷ addresses) ms new → DiffersAt addresses (with_at a (found (at_address a) new) ms) new
-differs_less a addresses ms new d = by_found (found (at_address a) new) refl
-  where
-    at_it : (o : Option MemberData) → found (at_address a) new ≡ o → (b : Addr) (t : Bool) → addr_eq a b ≡ t → is_among b addresses ≡ false → (if t then o else found (at_address b) ms) ≡ found (at_address b) new
-    at_it o is b true same off = sym (subst (λ x. found (at_address x) new ≡ o) (addr_eq-one a b same) is)
-    at_it o is b false same off = d.alike b (ap (λ v. v || is_among b addresses) same ∙ off)
-
-    by_found : (o : Option MemberData) → found (at_address a) new ≡ o → DiffersAt addresses (with_at a o ms) new
-    by_found (Some m) is = record {
-      old_ascends = ascends_put address_of addr_order_total m ms d.old_ascends;
-      new_ascends = d.new_ascends;
-      alike = λ b off.
-          found_put address_of addr_order_total b m ms
-          ∙ (ap (λ v. if v then Some m else found (at_address b) ms) (ap (λ x. is_eq (addr_order x b)) (addr_order_exact m.address a (found_at (at_address a) new m is)) ∙ sym (addr_eq_by_order a b))
-          ∙ at_it (Some m) is b (addr_eq a b) refl off);
-    }
-    by_found None is = record {
-      old_ascends = ascends_without address_of addr_order_total a ms d.old_ascends;
-      new_ascends = d.new_ascends;
-      alike = λ b off.
-          found_without address_of addr_order_total a b ms d.old_ascends
-          ∙ (ap (λ v. if v then None else found (at_address b) ms) (sym (addr_eq_by_order a b))
-          ∙ at_it None is b (addr_eq a b) refl off);
-    }
-
-pub differs_next : (addresses : List Addr) (i : ℕ) (d : Addr) (ms new next : List MemberData) (m : Option MemberData) → i < length addresses → DiffersAt (drop i addresses) ms new
-    → m ≡ found (at_address (get_or addresses i d)) new → next ≡ with_at (get_or addresses i d) m ms → DiffersAt (drop (i + 1) addresses) next new
-differs_next addresses i d ms new next m h differs is step =
-    subst (λ z. DiffersAt (drop (i + 1) addresses) z new) (sym (step ∙ ap (λ o. with_at (get_or addresses i d) o ms) is))
-    (differs_less (get_or addresses i d) (drop (i + 1) addresses) ms new (subst (λ rest. DiffersAt rest ms new) (drop_more addresses i d h) differs))
 
 pub differs_nowhere : (ms new : List MemberData) → DiffersAt [] ms new → ms ≡ new
 differs_nowhere ms new d = equal_maps address_of addr_order_total ms new d.old_ascends d.new_ascends (λ a. d.alike a refl)
@@ -152,45 +122,58 @@ change_picked g addresses old new d =
 
 -- ---- drafts
 
-all_more : {T : Type 0} (P : T → Type 0) (xs : List T) (x : T) → AllByRecursion P xs → P x → AllByRecursion P (xs ++ x ∷ [])
-all_more P [] x all h = (h, tt)
-all_more P (y ∷ ys) x all h = (all.0, all_more P ys x all.1 h)
-
-pub all_less : {T : Type 0} (P : T → Type 0) (xs : List T) (x : T) → AllByRecursion P (xs ++ x ∷ []) → AllByRecursion P xs × P x
-all_less P [] x all = (tt, all.0)
-all_less P (y ∷ ys) x all = let later = all_less P ys x all.1 in ((all.0, later.0), later.1)
-
-pub at_place : {T : Type 0} (P : T → Type 0) (xs : List T) (i : ℕ) (x : T) → AllByRecursion P xs → i < length xs → x ≡ get_or xs i x → P x
-at_place P xs i x all h is = subst P (sym is) (All-from_recursion P xs all i x h)
-
 -- the draft at the end is settled first
-pub settled_last : (ds : List Draft) (d : Draft) (es : List EntryData) → settled_by (ds ++ d ∷ []) es ≡ settled_by ds (settled_at d.place d.members es)
+pub settled_last : (ds : List Draft) (d : Draft) (es : List EntryData) → settled_by (ds ++ d ∷ []) es ≡ settled_by ds (settled_at d.place d.moves.edits.items es)
 settled_last [] d es = refl
-settled_last (x ∷ ds) d es = ap (settled_at x.place x.members) (settled_last ds d es)
+settled_last (x ∷ ds) d es = ap (settled_at x.place x.moves.edits.items) (settled_last ds d es)
 
-settled_behind : (first : List EntryData) (ms : List MemberData) (e : EntryData) (rest : List EntryData) → settled_at (length first) ms (first ++ e ∷ rest) ≡ first ++ with_members ms e ∷ rest
-settled_behind [] ms e rest = refl
-settled_behind (x ∷ first) ms e rest = ap (λ es. x ∷ es) (settled_behind first ms e rest)
+settled_behind : (first : List EntryData) (edits : List Edit) (e : EntryData) (rest : List EntryData) → settled_at (length first) edits (first ++ e ∷ rest) ≡ first ++ with_members (edited_by edits e.members) e ∷ rest
+settled_behind [] edits e rest = refl
+settled_behind (x ∷ first) edits e rest = ap (λ es. x ∷ es) (settled_behind first edits e rest)
 
-pub settled_here : (i : ℕ) (ms : List MemberData) (es : List EntryData) (x y : EntryData) → i < length es → x ≡ get_or es i x → y ≡ with_members ms x → set es i y ≡ settled_at i ms es
-settled_here i ms [] x y h here is = absurd (omega arith)
-settled_here zero ms (e ∷ es) x y h here is = ap (λ z. z ∷ es) (is ∙ ap (with_members ms) here)
-settled_here (suc i) ms (e ∷ es) x y h here is = ap (λ zs. e ∷ zs) (settled_here i ms es x y (omega arith) here is)
+pub settled_here : (i : ℕ) (edits : List Edit) (es : List EntryData) (x y : EntryData) → i < length es → x ≡ get_or es i x → y ≡ with_members (edited_by edits x.members) x → set es i y ≡ settled_at i edits es
+settled_here i edits [] x y h here is = absurd (omega arith)
+settled_here zero edits (e ∷ es) x y h here is = ap (λ z. z ∷ es) (is ∙ ap (λ (z : EntryData). with_members (edited_by edits z.members) z) here)
+settled_here (suc i) edits (e ∷ es) x y h here is = ap (λ zs. e ∷ zs) (settled_here i edits es x y (omega arith) here is)
+
+-- ---- places for the members
+
+pub fits_within : (i : ℕ) (m : Moves) (es : List EntryData) → FitsAt i m es → i < length es
+fits_within i m [] fits = absurd fits
+fits_within zero m (e ∷ es) fits = omega arith
+fits_within (suc i) m (e ∷ es) fits = let h = fits_within i m es fits in omega arith
+
+pub fits_here : (i : ℕ) (m : Moves) (es : List EntryData) (x : EntryData) → FitsAt i m es → x ≡ get_or es i x → Fits m x.members
+fits_here i m [] x fits is = absurd fits
+fits_here zero m (e ∷ es) x fits is = subst (λ (z : EntryData). Fits m z.members) (sym is) fits
+fits_here (suc i) m (e ∷ es) x fits is = fits_here i m es x fits is
+
+fits_behind : (first : List EntryData) (m : Moves) (e : EntryData) (rest : List EntryData) → Fits m e.members → FitsAt (length first) m (first ++ e ∷ rest)
+fits_behind [] m e rest fits = fits
+fits_behind (x ∷ first) m e rest fits = fits_behind first m e rest fits
+
+places_more : (ds : List Draft) (d : Draft) (es : List EntryData) → HavePlaces ds (settled_at d.place d.moves.edits.items es) → FitsAt d.place d.moves es → HavePlaces (ds ++ d ∷ []) es
+places_more [] d es all fits = (fits, tt)
+places_more (x ∷ ds) d es all fits = (subst (FitsAt x.place x.moves) (sym (settled_last ds d es)) all.0, places_more ds d es all.1 fits)
+
+pub places_less : (ds : List Draft) (d : Draft) (es : List EntryData) → HavePlaces (ds ++ d ∷ []) es → HavePlaces ds (settled_at d.place d.moves.edits.items es) × FitsAt d.place d.moves es
+places_less [] d es all = (tt, all.0)
+places_less (x ∷ ds) d es all = let later = places_less ds d es all.1 in ((subst (FitsAt x.place x.moves) (settled_last ds d es) all.0, later.0), later.1)
 
 -- the groups stay in order
-later_stay : (t : List ℕ) (i : ℕ) (ms : List MemberData) (es : List EntryData) → AllByRecursion (λ y. text_order t (entry_text y) ≡ Less) es → AllByRecursion (λ y. text_order t (entry_text y) ≡ Less) (settled_at i ms es)
-later_stay t i ms [] all = tt
-later_stay t zero ms (e ∷ es) all = all
-later_stay t (suc i) ms (e ∷ es) all = (all.0, later_stay t i ms es all.1)
+later_stay : (t : List ℕ) (i : ℕ) (edits : List Edit) (es : List EntryData) → AllByRecursion (λ y. text_order t (entry_text y) ≡ Less) es → AllByRecursion (λ y. text_order t (entry_text y) ≡ Less) (settled_at i edits es)
+later_stay t i edits [] all = tt
+later_stay t zero edits (e ∷ es) all = all
+later_stay t (suc i) edits (e ∷ es) all = (all.0, later_stay t i edits es all.1)
 
-at_ascends : (i : ℕ) (ms : List MemberData) (es : List EntryData) → IsIndex es → IsIndex (settled_at i ms es)
-at_ascends i ms [] up = tt
-at_ascends zero ms (e ∷ es) up = up
-at_ascends (suc i) ms (e ∷ es) up = (later_stay (entry_text e) i ms es up.0, at_ascends i ms es up.1)
+at_ascends : (i : ℕ) (edits : List Edit) (es : List EntryData) → IsIndex es → IsIndex (settled_at i edits es)
+at_ascends i edits [] up = tt
+at_ascends zero edits (e ∷ es) up = up
+at_ascends (suc i) edits (e ∷ es) up = (later_stay (entry_text e) i edits es up.0, at_ascends i edits es up.1)
 
 pub settled_ascends : (ds : List Draft) (es : List EntryData) → IsIndex es → IsIndex (settled_by ds es)
 settled_ascends [] es up = up
-settled_ascends (d ∷ ds) es up = at_ascends d.place d.members (settled_by ds es) (settled_ascends ds es up)
+settled_ascends (d ∷ ds) es up = at_ascends d.place d.moves.edits.items (settled_by ds es) (settled_ascends ds es up)
 
 at_more : (c : ClusterData) (first : List EntryData) (e : EntryData) (rest : List EntryData) → at_cluster c first ++ entry_at c e ∷ rest ≡ at_cluster c (first ++ e ∷ []) ++ rest
 unfolding at_cluster
@@ -205,24 +188,20 @@ module _ (c : ClusterData) where
   pub drafts_none : (d : Drafts) → d.changes.items ≡ [] → d.drafts.items ≡ [] → AreDrafts c [] d
   drafts_none d changes drafts = record {
     changes = changes;
-    within = subst (AllByRecursion (λ (draft : Draft). draft.place < 0)) (sym drafts) tt;
+    places = λ rest. subst (λ ds. HavePlaces ds rest) (sym drafts) tt;
     settle = λ rest. ap (λ ds. settled_by ds rest) drafts ∙ sym (ap (λ es. es ++ rest) (at_none c));
   }
 
-  drafts_within : (first : List EntryData) (ds : List Draft) (e : EntryData) (o : Option (List MemberData)) → AllByRecursion (λ (d : Draft). d.place < length first) ds
-      → AllByRecursion (λ (d : Draft). d.place < length (first ++ e ∷ [])) (ds ++ draft_at (length first) o)
-  drafts_within first ds e o all =
-      let more : length (first ++ e ∷ []) ≡ length first + 1 = length-append first (e ∷ []) in
-      let weaker : AllByRecursion (λ (d : Draft). d.place < length (first ++ e ∷ [])) ds =
-      all_weaker (λ (d : Draft). d.place < length first) (λ (d : Draft). d.place < length (first ++ e ∷ [])) (λ d h. omega (arith, more, h)) ds all in
-      by_draft o more weaker
-    where
-      by_draft : (o : Option (List MemberData)) → length (first ++ e ∷ []) ≡ length first + 1 → AllByRecursion (λ (d : Draft). d.place < length (first ++ e ∷ [])) ds
-          → AllByRecursion (λ (d : Draft). d.place < length (first ++ e ∷ [])) (ds ++ draft_at (length first) o)
-      by_draft None more weaker = subst (AllByRecursion (λ (d : Draft). d.place < length (first ++ e ∷ []))) (sym (append-nil ds)) weaker
-      by_draft (Some ms) more weaker = all_more (λ (d : Draft). d.place < length (first ++ e ∷ [])) ds (record { place = length first; members = ms }) weaker (omega (arith, more))
+  drafts_fit : (first : List EntryData) (ds : List Draft) (e : EntryData) (o : Option Moves) → FitsIf o e.members → ((rest : List EntryData) → HavePlaces ds (first ++ rest))
+      → (rest : List EntryData) → HavePlaces (ds ++ draft_at (length first) o) ((first ++ e ∷ []) ++ rest)
+  drafts_fit first ds e None fits all rest = subst (λ xs. HavePlaces xs ((first ++ e ∷ []) ++ rest)) (sym (append-nil ds)) (subst (HavePlaces ds) (sym (append_assoc first (e ∷ []) rest)) (all (e ∷ rest)))
+  drafts_fit first ds e (Some m) fits all rest =
+      subst (HavePlaces (ds ++ draft_at (length first) (Some m))) (sym (append_assoc first (e ∷ []) rest))
+      (places_more ds (record { place = length first; moves = m }) (first ++ e ∷ rest)
+      (subst (HavePlaces ds) (sym (settled_behind first m.edits.items e rest)) (all (with_members (edited_by m.edits.items e.members) e ∷ rest)))
+      (fits_behind first m e rest fits))
 
-  drafts_lead : (first : List EntryData) (ds : List Draft) (e : EntryData) (o : Option (List MemberData)) → unwrap_or o e.members ≡ members_of c e.group
+  drafts_lead : (first : List EntryData) (ds : List Draft) (e : EntryData) (o : Option Moves) → moved_if o e.members ≡ members_of c e.group
       → ((rest : List EntryData) → settled_by ds (first ++ rest) ≡ at_cluster c first ++ rest)
       → (rest : List EntryData) → settled_by (ds ++ draft_at (length first) o) ((first ++ e ∷ []) ++ rest) ≡ at_cluster c (first ++ e ∷ []) ++ rest
   drafts_lead first ds e None is lead rest =
@@ -230,40 +209,50 @@ module _ (c : ClusterData) where
       ∙ (ap (settled_by ds) (append_assoc first (e ∷ []) rest)
       ∙ (lead (e ∷ rest)
       ∙ (ap (λ ms. at_cluster c first ++ with_members ms e ∷ rest) is ∙ at_more c first e rest)))
-  drafts_lead first ds e (Some ms) is lead rest =
-      ap (settled_by (ds ++ draft_at (length first) (Some ms))) (append_assoc first (e ∷ []) rest)
-      ∙ (settled_last ds (record { place = length first; members = ms }) (first ++ e ∷ rest)
-      ∙ (ap (settled_by ds) (settled_behind first ms e rest)
-      ∙ (lead (with_members ms e ∷ rest)
+  drafts_lead first ds e (Some m) is lead rest =
+      ap (settled_by (ds ++ draft_at (length first) (Some m))) (append_assoc first (e ∷ []) rest)
+      ∙ (settled_last ds (record { place = length first; moves = m }) (first ++ e ∷ rest)
+      ∙ (ap (settled_by ds) (settled_behind first m.edits.items e rest)
+      ∙ (lead (with_members (edited_by m.edits.items e.members) e ∷ rest)
       ∙ (ap (λ ms. at_cluster c first ++ with_members ms e ∷ rest) is ∙ at_more c first e rest))))
 
   -- one group more, with its draft and its change
-  pub drafts_more : (first : List EntryData) (d new : Drafts) (e : EntryData) (o : Option (List MemberData)) → unwrap_or o e.members ≡ members_of c e.group
+  pub drafts_more : (first : List EntryData) (d new : Drafts) (e : EntryData) (o : Option Moves) → moved_if o e.members ≡ members_of c e.group → FitsIf o e.members
       → new.drafts.items ≡ d.drafts.items ++ draft_at (length first) o → new.changes.items ≡ d.changes.items ++ change_at c e → AreDrafts c first d → AreDrafts c (first ++ e ∷ []) new
-  drafts_more first d new e o is drafts changes h = record {
+  drafts_more first d new e o is fits drafts changes h = record {
     changes =
         changes
         ∙ (ap (λ xs. xs ++ change_at c e) h.changes
         ∙ sym (flat_map-append (change_at c) first (e ∷ []) ∙ ap (λ ys. flat_map (change_at c) first ++ ys) (append-nil (change_at c e))));
-    within = subst (AllByRecursion (λ (draft : Draft). draft.place < length (first ++ e ∷ []))) (sym drafts) (drafts_within first d.drafts.items e o h.within);
+    places = λ rest. subst (λ ds. HavePlaces ds ((first ++ e ∷ []) ++ rest)) (sym drafts) (drafts_fit first d.drafts.items e o fits h.places rest);
     settle = λ rest. ap (λ ds. settled_by ds ((first ++ e ∷ []) ++ rest)) drafts ∙ drafts_lead first d.drafts.items e o is h.settle rest;
   }
 
   -- one group more, whose members stay
   pub drafts_same : (first : List EntryData) (d : Drafts) (e : EntryData) → Stays c e → AreDrafts c first d → AreDrafts c (first ++ e ∷ []) d
-  drafts_same first d e stays h = drafts_more first d d e None stays (sym (append-nil d.drafts.items)) (unchanged d.changes.items e.group e.members (members_of c e.group) stays) h
+  drafts_same first d e stays h = drafts_more first d d e None stays tt (sym (append-nil d.drafts.items)) (unchanged d.changes.items e.group e.members (members_of c e.group) stays) h
 
-  -- more groups whose members stay
-  pub drafts_pass : (first : List EntryData) (d : Drafts) (es : List EntryData) → AllByRecursion (Stays c) es → AreDrafts c first d → AreDrafts c (first ++ es) d
-  drafts_pass first d [] all h = subst (λ xs. AreDrafts c xs d) (sym (append-nil first)) h
-  drafts_pass first d (e ∷ es) all h = subst (λ xs. AreDrafts c xs d) (append_assoc first (e ∷ []) es) (drafts_pass (first ++ e ∷ []) d es all.1 (drafts_same first d e all.0 h))
+  nothing_taken : (i : ℕ) → (let none : List EntryData = [] in take i none) ≡ []
+  nothing_taken zero = refl
+  nothing_taken (suc i) = refl
 
-  -- the group at the next place
-  pub drafts_next : (index : List EntryData) (i : ℕ) (e : EntryData) (d new : Drafts) → i < length index → e ≡ get_or index i e
-      → ((first : List EntryData) → length first ≡ i → AreDrafts c first d → AreDrafts c (first ++ e ∷ []) new) → AreDrafts c (take i index) d → AreDrafts c (take (i + 1) index) new
-  drafts_next index i e d new h here step before =
-      subst (λ first. AreDrafts c first new) (sym (take_more index i e h ∙ ap (λ x. take i index ++ x ∷ []) (sym here)))
-      (step (take i index) (length-take-le i index (omega arith)) before)
+  -- the groups between two places, whose members stay
+  drafts_between : (first : List EntryData) (d : Drafts) (es : List EntryData) (i j : ℕ) → i ≤ j → AllWithin (Stays c) es i j → AreDrafts c (first ++ take i es) d → AreDrafts c (first ++ take j es) d
+  drafts_between first d [] i j le all h = subst (λ xs. AreDrafts c (first ++ xs) d) (nothing_taken i ∙ sym (nothing_taken j)) h
+  drafts_between first d (e ∷ es) zero zero le all h = h
+  drafts_between first d (e ∷ es) zero (suc j) le all h =
+      subst (λ xs. AreDrafts c xs d) (append_assoc first (e ∷ []) (take j es))
+      (drafts_between (first ++ e ∷ []) d es 0 j (omega arith) (λ k x lo hi. all (suc k) x (omega arith) (omega arith))
+      (subst (λ xs. AreDrafts c xs d) (sym (append-nil (first ++ e ∷ [])))
+      (drafts_same first d e (all 0 e (omega arith) (omega arith)) (subst (λ xs. AreDrafts c xs d) (append-nil first) h))))
+  drafts_between first d (e ∷ es) (suc i) zero le all h = absurd (omega arith)
+  drafts_between first d (e ∷ es) (suc i) (suc j) le all h =
+      subst (λ xs. AreDrafts c xs d) (append_assoc first (e ∷ []) (take j es))
+      (drafts_between (first ++ e ∷ []) d es i j (omega arith) (λ k x lo hi. all (suc k) x (omega arith) (omega arith))
+      (subst (λ xs. AreDrafts c xs d) (sym (append_assoc first (e ∷ []) (take i es))) h))
+
+  pub drafts_places : (index : List EntryData) (d : Drafts) → AreDrafts c index d → HavePlaces d.drafts.items index
+  drafts_places index d h = subst (HavePlaces d.drafts.items) (append-nil index) (h.places [])
 
   pub drafts_settled : (index : List EntryData) (d : Drafts) → AreDrafts c index d → settled_by d.drafts.items index ≡ at_cluster c index
   drafts_settled index d h =
@@ -286,5 +275,33 @@ moves concerns addresses before c alike index stands =
 pub unconcerned : (concerns : Group → Bool) (addresses : List Addr) (c : ClusterData) (e : EntryData) → concerns e.group ≡ false → MovesAt concerns addresses c e → Stays c e
 unconcerned concerns addresses c e off moves = differs_nowhere e.members (members_of c e.group) (subst (λ b. DiffersAt (addresses_where b addresses) e.members (members_of c e.group)) off moves)
 
-pub concerned : (concerns : Group → Bool) (addresses : List Addr) (c : ClusterData) (e : EntryData) → concerns e.group ≡ true → MovesAt concerns addresses c e → DiffersAt addresses e.members (members_of c e.group)
-concerned concerns addresses c e on moves = subst (λ b. DiffersAt (addresses_where b addresses) e.members (members_of c e.group)) on moves
+module _ (concerns : Group → Bool) (addresses : List Addr) (c : ClusterData) (index : List EntryData) (all : AllByRecursion (MovesAt concerns addresses c) index) where
+  -- groups that a change doesn't concern are passed over
+  passed_over : (d : Drafts) (i j : ℕ) → i ≤ j → j ≤ length index → AllWithin (λ (e : EntryData). concerns e.group ≡ false) index i j → AreDrafts c (take i index) d → AreDrafts c (take j index) d
+  passed_over d i j le within off = drafts_between c [] d index i j le (λ k e lo hi. unconcerned concerns addresses c (get_or index k e) (off k e lo hi) (All-from_recursion (MovesAt concerns addresses c) index all k e (omega arith)))
+
+  from_none : (d : Drafts) → AreDrafts c [] d → AreDrafts c (take 0 index) d
+  from_none d h = subst (λ xs. AreDrafts c xs d) (sym (take_none index)) h
+    where
+      take_none : (es : List EntryData) → take 0 es ≡ []
+      take_none [] = refl
+      take_none (e ∷ es) = refl
+
+  to_end : (d : Drafts) → AreDrafts c (take (length index) index) d → AreDrafts c index d
+  to_end d h = subst (λ xs. AreDrafts c xs d) (take_all (length index) index (omega arith)) h
+
+  -- those of one stretch have their drafts, and the others stay
+  pub one_stretch : (s : Stretch) (none one : Drafts) → IsStretch (λ (e : EntryData). concerns e.group ≡ false) index s → AreDrafts c [] none
+      → (AreDrafts c (take s.start index) none → AreDrafts c (take s.end index) one) → AreDrafts c index one
+  one_stretch s none one is h step =
+      to_end one (passed_over one s.end (length index) is.within (omega arith) is.after (step (passed_over none 0 s.start (omega arith) (let o = is.order in let w = is.within in omega arith) is.before (from_none none h))))
+
+  -- those of two stretches have their drafts, and the others stay
+  pub two_stretches : (s : Stretches) (none one two : Drafts) → AreStretches (λ (e : EntryData). concerns e.group ≡ false) index s → AreDrafts c [] none
+      → (AreDrafts c (take s.first.start index) none → AreDrafts c (take s.first.end index) one) → (AreDrafts c (take s.second.start index) one → AreDrafts c (take s.second.end index) two) → AreDrafts c index two
+  two_stretches s none one two are h first second =
+      let second_within : s.second.start ≤ length index = (let o = are.second in let w = are.within in omega arith) in
+      let first_within : s.first.start ≤ length index = (let o = are.first in let a = are.apart in omega arith) in
+      to_end two (passed_over two s.second.end (length index) are.within (omega arith) are.after
+      (second (passed_over one s.first.end s.second.start are.apart second_within are.between
+      (first (passed_over none 0 s.first.start (omega arith) first_within are.before (from_none none h))))))

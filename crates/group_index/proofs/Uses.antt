@@ -37,14 +37,6 @@ put_ascends g e index same up = subst (λ t. IsIndex (put (λ y. text_order (ent
 text_of_found : (g : Group) (index : List EntryData) (e : EntryData) → entry_of index g ≡ Some e → entry_text e ≡ group_text g
 text_of_found g index e is = text_order_exact (entry_text e) (group_text g) (found_at (at_group g) index e is)
 
-pub with_use_ascends : (c : ClusterData) (g : Group) (index : List EntryData) → IsIndex index → IsIndex (with_use c g index)
-unfolding with_use
-with_use_ascends c g index up = by_found (entry_of index g) refl
-  where
-    by_found : (o : Option EntryData) → entry_of index g ≡ o → IsIndex (put (at_group g) (more_use c g o) index)
-    by_found (Some e) is = put_ascends g (used_again e) index (text_of_found g index e is) up
-    by_found None is = put_ascends g (first_use c g) index refl up
-
 pub with_use_stands : (c : ClusterData) (g : Group) (index : List EntryData) → StandsFor index c → StandsFor (with_use c g index) c
 unfolding with_use
 with_use_stands c g index all = by_found (entry_of index g) refl

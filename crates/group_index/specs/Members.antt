@@ -1,5 +1,5 @@
 -- Who is in a group (Kubernetes NetworkPolicy v1: pod and namespace selectors; Antrea's address groups).
-use Rattle.std.specs.Prelude.{ℕ, List, Bool}
+use Rattle.std.specs.Prelude.{ℕ, List, [], Bool, map, if◌then◌else◌}
 use Rattle.std.specs.Ordering.{is_eq}
 use Rattle.cl_types.specs.declared.addr.Addr.{Addr}
 use Rattle.cl_types.specs.declared.keys.PodKey.{PodKey}
@@ -11,7 +11,7 @@ use Rattle.cl_types.specs.Text.{text_eq}
 use Rattle.label_select.specs.Group.{Group}
 use Rattle.cluster_types.specs.Pod.{PodData}
 use Rattle.cluster_types.specs.Cluster.{ClusterData}
-use Rattle.cluster_types.specs.Groups.{members_by}
+use Rattle.cluster_types.specs.Groups.{in_group, members_by}
 
 -- an address of a pod, with what is told of the pod
 pub record MemberData : Type 0 where
@@ -33,6 +33,10 @@ is_member_on node m = text_eq m.node node
 
 abbrev pub by_address : List MemberData → List MemberData
 by_address = sorted_by (λ (m : MemberData). m.address) addr_order
+
+-- the pod's members, where the group contains it
+abbrev pub members_if : ClusterData → Group → PodData → List MemberData
+members_if c g p = if in_group c g p then map (member_of p) p.addresses else []
 
 -- the members of the group at the cluster, by address
 unfoldable pub members_of : ClusterData → Group → List MemberData

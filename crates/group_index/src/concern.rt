@@ -117,8 +117,8 @@ fn name_behind(name: &Text) -> Result<Text, NoMemory>
     Ok(text)
 }
 
-// The pods of the namespace stand together.
-fn pods_of(alloc: Global, pods: &[Pod], name: &Text) -> Result<Stretch, NoMemory>
+/// The pods of the namespace stand together.
+pub(crate) fn pods_of(alloc: Global, pods: &[Pod], name: &Text) -> Result<Stretch, NoMemory>
     requires { Ascends (λ (p : PodData). p.key) pod_order pods.now }
     ensures { IfOk result (IsStretch (λ (p : PodData). text_eq p.key.namespace name.now ≡ false) pods.now) }
 {

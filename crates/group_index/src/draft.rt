@@ -1,25 +1,26 @@
-//! New members of the groups in use, held aside until all of them are there.
+//! How the members of the groups in use move, held aside until all of it is there.
 ghost use Rattle.std.specs.Prelude.{◌≡◌, ◌≤◌, ◌<◌, ◌++◌, [], ◌∷◌, length, take, option_copied, OnOk};
 ghost use Rattle.std.specs.List.{AllByRecursion, HoldsAt};
 ghost use Rattle.cluster_types.specs.Cluster.{ClusterData};
 ghost use Rattle.group_index.specs.Index.{EntryData};
 ghost use Rattle.group_index.specs.Members.{members_of};
-ghost use Rattle.group_index.specs.Settled.{AreDrafts, DiffersAt, MovesAt, draft_at, follows_labels, has_either, settled_by};
+ghost use Rattle.group_index.specs.Settled.{AreDrafts, DiffersAt, HavePlaces, MovesAt, draft_at, follows_labels, has_either, settled_by};
 ghost use Rattle.std.specs.Prelude.{List as Items};
 
 use crate::change::GroupChange;
 use crate::concern::has_either;
 use crate::entry::Entry;
-use crate::member::Member;
-use cl_types::{Addr, List, NoMemory};
+use crate::moves::Moves;
+use crate::stretch::Stretch;
+use cl_types::{Addr, NoMemory};
 use cluster_objects::{Cluster, Pod};
 use std::alloc::Global;
 
-/// The members that the group in use at the place is to have.
+/// How the members of the group in use at the place move.
 #[derive(Drop)]
 pub(crate) struct Draft {
     place: usize,
-    members: List<Member>,
+    moves: Moves,
 }
 
 /// Drafts of the groups in use whose members differ, and what changes.
@@ -40,12 +41,12 @@ impl Drafts {
         }
     }
 
-    fn push_draft(&mut self, place: usize, draft: Option<List<Member>>) -> Result<(), NoMemory>
+    fn push_draft(&mut self, place: usize, draft: Option<Moves>) -> Result<(), NoMemory>
         ensures drafts { OnOk result (self.new.drafts.items ≡ self.old.drafts.items ++ draft_at place draft) }
         ensures changes { self.new.changes ≡ self.old.changes }
     {
-        if let Some(members) = draft {
-            self.drafts.push(Draft { place, members })?;
+        if let Some(moves) = draft {
+            self.drafts.push(Draft { place, moves })?;
         }
         Ok(())
     }
@@ -101,43 +102,41 @@ impl Drafts {
         self.draft(place, entry, c, addresses)
     }
 
-    /// Drafts the groups from place `start` up to `end`, where a pod changed.
+    /// Drafts the groups of the stretch, where a pod changed.
     pub(crate) fn draft_pod(
         &mut self,
         entries: &[Entry],
-        start: usize,
-        end: usize,
+        of: Stretch,
         c: &Cluster,
         old: Option<&Pod>,
         now: Option<&Pod>,
         addresses: &[Addr],
     ) -> Result<(), NoMemory>
         requires moves { AllByRecursion (MovesAt (has_either c.now.cluster (option_copied old) (option_copied now)) addresses.now c.now.cluster) entries.now }
-        requires within { end ≤ length entries.now }
-        requires order { start ≤ end }
-        ensures { OnOk result (AreDrafts c.now.cluster (take start entries.now) self.old → AreDrafts c.now.cluster (take end entries.now) self.new) }
+        requires within { of.end ≤ length entries.now }
+        requires order { of.start ≤ of.end }
+        ensures { OnOk result (AreDrafts c.now.cluster (take of.start entries.now) self.old → AreDrafts c.now.cluster (take of.end entries.now) self.new) }
     {
-        for place in start..end {
+        for place in of.start..of.end {
             self.draft_if_in(place, &entries[place], c, old, now, addresses)?;
         }
         Ok(())
     }
 
-    /// Drafts the groups from place `start` up to `end`, where a namespace changed.
+    /// Drafts the groups of the stretch, where a namespace changed.
     pub(crate) fn draft_namespace(
         &mut self,
         entries: &[Entry],
-        start: usize,
-        end: usize,
+        of: Stretch,
         c: &Cluster,
         addresses: &[Addr],
     ) -> Result<(), NoMemory>
         requires moves { AllByRecursion (MovesAt follows_labels addresses.now c.now.cluster) entries.now }
-        requires within { end ≤ length entries.now }
-        requires order { start ≤ end }
-        ensures { OnOk result (AreDrafts c.now.cluster (take start entries.now) self.old → AreDrafts c.now.cluster (take end entries.now) self.new) }
+        requires within { of.end ≤ length entries.now }
+        requires order { of.start ≤ of.end }
+        ensures { OnOk result (AreDrafts c.now.cluster (take of.start entries.now) self.old → AreDrafts c.now.cluster (take of.end entries.now) self.new) }
     {
-        for place in start..end {
+        for place in of.start..of.end {
             self.draft_if_following(place, &entries[place], c, addresses)?;
         }
         Ok(())
@@ -146,10 +145,10 @@ impl Drafts {
 
 /// Settles the drafts, the last one first. It does not allocate.
 pub(crate) fn settle(entries: &mut Vec<Entry>, mut drafts: Vec<Draft>)
-    requires { AllByRecursion (λ (d : Draft). d.place < length entries.old.items) drafts.items }
+    requires { HavePlaces drafts.items entries.old.items }
     ensures { entries.new.items ≡ settled_by drafts.items entries.old.items }
 {
     while let Some(draft) = drafts.pop() {
-        entries[draft.place].settle(draft.members);
+        entries[draft.place].settle(draft.moves);
     }
 }

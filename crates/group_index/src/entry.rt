@@ -1,15 +1,16 @@
-ghost use Rattle.std.specs.Prelude.{◌≡◌, ◌++◌, ◌≤◌, ◌==◌, unwrap_or, IfErr, IfOk, OnOk, OnErr, IfSome, IfNone};
+ghost use Rattle.std.specs.Prelude.{◌≡◌, ◌++◌, ◌≤◌, ◌==◌, IfErr, IfOk, OnOk, OnErr, IfSome, IfNone};
 ghost use Rattle.std.specs.List.{AllByRecursion};
 ghost use Rattle.cl_types.specs.Ascending.{IsGap, IsPlace};
 ghost use Rattle.label_select.specs.Written.{group_text};
 ghost use Rattle.group_index.specs.Changes.{change_at};
 ghost use Rattle.group_index.specs.Index.{IsIndex, at_group, entry_of, first_use, group_if_has, has_pod, used_again, used_less};
 ghost use Rattle.group_index.specs.Members.{members_of};
-ghost use Rattle.group_index.specs.Settled.{DiffersAt, follows_labels, with_members};
+ghost use Rattle.group_index.specs.Settled.{DiffersAt, Fits, FitsIf, edited_by, follows_labels, moved_if, with_members};
 
 use crate::change::GroupChange;
 use crate::gather::members_of;
 use crate::member::Member;
+use crate::moves::Moves;
 use crate::settle::draft_of;
 use cl_types::{Addr, Copies, Keyed, List, NoMemory, PodKey, Text};
 use cluster_objects::Cluster;
@@ -107,25 +108,27 @@ impl Entry {
         }
     }
 
-    /// Appends what changes in the group where its members differ at these addresses alone, and answers the new ones.
+    /// Appends what changes in the group where its members differ at these addresses alone, and answers how they move.
     pub(crate) fn draft(
         &self,
         changes: &mut Vec<GroupChange>,
         c: &Cluster,
         addresses: &[Addr],
-    ) -> Result<Option<List<Member>>, NoMemory>
+    ) -> Result<Option<Moves>, NoMemory>
         requires { DiffersAt addresses.now self.now.members (members_of c.now.cluster self.now.group) }
         ensures changes { OnOk result (changes.new.items ≡ changes.old.items ++ change_at c.now.cluster self.now) }
-        ensures draft { IfOk result (λ d. unwrap_or d self.now.members ≡ members_of c.now.cluster self.now.group) }
+        ensures draft { IfOk result (λ d. moved_if d self.now.members ≡ members_of c.now.cluster self.now.group) }
+        ensures places { IfOk result (λ d. FitsIf d self.now.members) }
     {
         draft_of(changes, c, &self.group, &self.members, addresses)
     }
 
-    /// Gives the group these members. It does not allocate.
-    pub(crate) fn settle(&mut self, members: List<Member>)
-        ensures { self.new ≡ with_members members self.old }
+    /// Moves the members of the group. It does not allocate.
+    pub(crate) fn settle(&mut self, moves: Moves)
+        requires { Fits moves self.old.members }
+        ensures { self.new ≡ with_members (edited_by moves.edits.items self.old.members) self.old }
     {
-        self.members = members;
+        moves.settle(&mut self.members);
     }
 
     // Whether a member is of the pod.

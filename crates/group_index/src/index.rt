@@ -5,8 +5,7 @@ ghost use Rattle.cluster_types.specs.Cluster.{ClusterData, IsCluster};
 ghost use Rattle.group_index.specs.Changes.{at_cluster, before_namespace, before_pod, change_at, changes_between};
 ghost use Rattle.group_index.specs.Index.{EntryData, IsIndex, StandsFor, at_group, entry_of, group_nodes, groups_of, groups_with, has_node, span, with_use, without_use};
 ghost use Rattle.group_index.specs.Members.{MemberData, is_member_on};
-ghost use Rattle.group_index.specs.Settled.{AreDrafts, MovesAt, follows_labels, has_either, namespace_addresses, pod_addresses, settled_by};
-ghost use Rattle.group_index.specs.declared.draft.Draft.{Draft};
+ghost use Rattle.group_index.specs.Settled.{AreDrafts, HavePlaces, MovesAt, ShareNamespace, follows_labels, has_either, namespace_addresses, pod_addresses, settled_by};
 ghost use Rattle.label_select.specs.Group.{Group};
 
 use crate::change::GroupChange;
@@ -14,6 +13,7 @@ use crate::concern::{namespace_addresses, pod_addresses, pod_now};
 use crate::draft::{Drafts, settle};
 use crate::entry::{Entry, place_of};
 use crate::member::Member;
+use crate::scope::{following, of_pods};
 use crate::sorted::sorted;
 use cl_types::{Copies, List, NoMemory, PodKey, Text, put};
 use cluster_objects::{Cluster, Namespace, Pod};
@@ -113,9 +113,9 @@ impl GroupIndex {
         }
     }
 
-    // Gives the groups the members of their drafts, and answers what changes. It does not allocate.
+    // Moves the members of the groups by their drafts, and answers what changes. It does not allocate.
     fn settle(&mut self, drafts: Drafts) -> List<GroupChange>
-        requires { AllByRecursion (λ (d : Draft). d.place < length self.old) drafts.drafts.items }
+        requires { HavePlaces drafts.drafts.items self.old }
         ensures index { self.new ≡ settled_by drafts.drafts.items self.old }
         ensures changes { result ≡ drafts.changes.items }
     {
@@ -129,14 +129,17 @@ impl GroupIndex {
         old: Option<&Pod>,
         now: Option<&Pod>,
     ) -> Result<Drafts, NoMemory>
-        requires { AllByRecursion (MovesAt (has_either c.now.cluster (option_copied old) (option_copied now)) (pod_addresses (option_copied old) (option_copied now)) c.now.cluster) self.now }
+        requires moves { AllByRecursion (MovesAt (has_either c.now.cluster (option_copied old) (option_copied now)) (pod_addresses (option_copied old) (option_copied now)) c.now.cluster) self.now }
+        requires pods { ShareNamespace (option_copied old) (option_copied now) }
         ensures { IfOk result (λ drafts. AreDrafts c.now.cluster self.now drafts) }
     {
         let alloc = *self.entries.allocator();
         let addresses = pod_addresses(alloc, old, now)?;
         let entries = self.entries.as_slice();
+        let of = of_pods(alloc, entries, old, now)?;
         let mut drafts = Drafts::new(alloc);
-        drafts.draft_pod(entries, 0, entries.len(), c, old, now, addresses.as_slice())?;
+        drafts.draft_pod(entries, of.first, c, old, now, addresses.as_slice())?;
+        drafts.draft_pod(entries, of.second, c, old, now, addresses.as_slice())?;
         Ok(drafts)
     }
 
@@ -152,14 +155,16 @@ impl GroupIndex {
         let alloc = *self.entries.allocator();
         let addresses = namespace_addresses(alloc, c, old, name)?;
         let entries = self.entries.as_slice();
+        let of = following(alloc, entries)?;
         let mut drafts = Drafts::new(alloc);
-        drafts.draft_namespace(entries, 0, entries.len(), c, addresses.as_slice())?;
+        drafts.draft_namespace(entries, of, c, addresses.as_slice())?;
         Ok(drafts)
     }
 
     /// Follows a pod that changed, came (without `old`) or went (without `new`), and answers what changed in the groups
-    /// in use. It reads the members of the groups that contain the one or the other, at the addresses of the two alone, and
-    /// no other pod of the cluster.
+    /// in use. It asks the groups whose scope is the pod's namespace and those whose scope is a selector; of those that
+    /// contain the one pod or the other it reads the members at the addresses of the two, and it reads no other pod of
+    /// the cluster.
     pub fn pod_changed(
         &mut self,
         c: &Cluster,
@@ -178,8 +183,8 @@ impl GroupIndex {
     }
 
     /// Follows a namespace whose labels changed, that came (without `old`) or that went, and answers what changed in the
-    /// groups in use. It reads members at the addresses of the namespace's pods alone, and only those of groups whose
-    /// scope is a selector.
+    /// groups in use. It asks the groups whose scope is a selector, and reads their members at the addresses of the
+    /// namespace's pods alone.
     pub fn namespace_changed(
         &mut self,
         c: &Cluster,

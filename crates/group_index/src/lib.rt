@@ -9,6 +9,8 @@ mod gather;
 mod index;
 mod laws;
 mod member;
+mod moves;
+mod scope;
 mod settle;
 mod sorted;
 mod stretch;

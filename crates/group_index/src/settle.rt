@@ -1,18 +1,19 @@
-//! The members of a group at some addresses, before and after a change, and the group's members once they have moved.
-ghost use Rattle.std.specs.Prelude.{◌≡◌, ◌++◌, [], None, Some, if◌then◌else◌, unwrap_or, IfOk, OnOk};
+//! The members of a group at some addresses, before and after a change, and how the group's members move.
+ghost use Rattle.std.specs.Prelude.{◌≡◌, ◌++◌, [], None, Some, if◌then◌else◌, map, IfOk, OnOk};
 ghost use Rattle.std.specs.List.{flat_map};
 ghost use Rattle.std.specs.Option.{option_to_list};
 ghost use Rattle.cl_types.specs.Ascending.{found};
 ghost use Rattle.cluster_types.specs.Groups.{in_group};
 ghost use Rattle.group_index.specs.Changes.{group_change};
 ghost use Rattle.group_index.specs.Members.{member_of, members_of};
-ghost use Rattle.group_index.specs.Settled.{AscendByAddress, DiffersAt, at_address, here_at, picked, with_at};
+ghost use Rattle.group_index.specs.Settled.{AscendByAddress, DiffersAt, Fits, FitsIf, at_address, edit_to, edited_by, here_at, moved_if, picked};
 
 use crate::change::{GroupChange, push_change};
 use crate::gather::member_of;
 use crate::member::Member;
+use crate::moves::{Edit, Moves};
 use crate::sorted::sorted;
-use cl_types::{Addr, Copies, List, NoMemory, Same, find, put, remove};
+use cl_types::{Addr, Copies, List, NoMemory, Same, find};
 use cluster_objects::{Cluster, Pod};
 use label_select::GroupKey;
 use std::alloc::Global;
@@ -107,59 +108,54 @@ pub(crate) fn picked_now(
     sorted(alloc, members_at(alloc, c, g, addresses)?)
 }
 
-fn copied(alloc: Global, members: &[Member]) -> Result<Vec<Member>, NoMemory>
-    ensures { IfOk result (λ v. v.items ≡ members.now) }
-{
-    let mut copies = Vec::with_capacity(alloc, members.len())?;
-    for m in members {
-        copies.push(m.copy()?)?;
-    }
-    Ok(copies)
-}
-
-// Puts the member at its address, or removes the one at the address.
-fn move_at(members: &mut Vec<Member>, a: &Addr, m: Option<Member>) -> Result<(), NoMemory>
-    requires { AscendByAddress members.old.items }
-    ensures { OnOk result (members.new.items ≡ with_at a.now m members.old.items) }
-{
-    match m {
-        Some(m) => put(members, m)?,
-        None => {
-            remove(members, a);
-        }
-    }
-    Ok(())
-}
-
-/// The members of the group at the cluster, from others that differ at these addresses alone.
-pub(crate) fn moved(
+// The edits that put what the group has at these addresses, at the cluster.
+fn edits_at(
     alloc: Global,
     c: &Cluster,
     g: &GroupKey,
-    old: &[Member],
     addresses: &[Addr],
-) -> Result<Vec<Member>, NoMemory>
-    requires { DiffersAt addresses.now old.now (members_of c.now.cluster g.now) }
-    ensures { IfOk result (λ v. v.items ≡ members_of c.now.cluster g.now) }
+) -> Result<Vec<Edit>, NoMemory>
+    ensures { IfOk result (λ v. v.items ≡ map (edit_to (members_of c.now.cluster g.now)) addresses.now) }
 {
-    let mut members = copied(alloc, old)?;
+    let mut edits = Vec::with_capacity(alloc, addresses.len())?;
     for a in addresses {
-        move_at(&mut members, a, member_at(c, g, *a)?)?;
+        let member = member_at(c, g, *a)?;
+        edits.push(Edit {
+            address: *a,
+            member,
+        })?;
     }
-    Ok(members)
+    Ok(edits)
 }
 
-/// Appends what changes in the group, and answers its new members, where they differ.
+// The edits by which members that differ at these addresses alone become those at the cluster.
+fn moves_of(
+    alloc: Global,
+    c: &Cluster,
+    g: &GroupKey,
+    members: &[Member],
+    addresses: &[Addr],
+) -> Result<Moves, NoMemory>
+    requires { DiffersAt addresses.now members.now (members_of c.now.cluster g.now) }
+    ensures members { IfOk result (λ m. edited_by m.edits.items members.now ≡ members_of c.now.cluster g.now) }
+    ensures places { IfOk result (λ m. Fits m members.now) }
+{
+    let edits = edits_at(alloc, c, g, addresses)?;
+    Moves::of(alloc, edits, members)
+}
+
+/// Appends what changes in the group, and answers how its members move, where they differ.
 pub(crate) fn draft_of(
     changes: &mut Vec<GroupChange>,
     c: &Cluster,
     g: &GroupKey,
     members: &List<Member>,
     addresses: &[Addr],
-) -> Result<Option<List<Member>>, NoMemory>
+) -> Result<Option<Moves>, NoMemory>
     requires { DiffersAt addresses.now members.now (members_of c.now.cluster g.now) }
     ensures changes { OnOk result (changes.new.items ≡ changes.old.items ++ group_change g.now members.now (members_of c.now.cluster g.now)) }
-    ensures draft { IfOk result (λ d. unwrap_or d members.now ≡ members_of c.now.cluster g.now) }
+    ensures draft { IfOk result (λ d. moved_if d members.now ≡ members_of c.now.cluster g.now) }
+    ensures places { IfOk result (λ d. FitsIf d members.now) }
 {
     let alloc = *changes.allocator();
     let old = List::of(picked(alloc, members.as_slice(), addresses)?);
@@ -168,5 +164,5 @@ pub(crate) fn draft_of(
         return Ok(None);
     }
     push_change(changes, g, &old, &new)?;
-    Ok(Some(List::of(moved(alloc, c, g, members.as_slice(), addresses)?)))
+    Ok(Some(moves_of(alloc, c, g, members.as_slice(), addresses)?))
 }

@@ -4,7 +4,7 @@ use Rattle.group_index.specs.Changes.{before_namespace}
 use Rattle.group_index.specs.Index.{StandsFor}
 use Rattle.group_index.specs.Settled.{follows_labels, namespace_addresses}
 use Rattle.group_index.proofs.Concerns.{namespace_leaves}
-use Rattle.group_index.proofs.Settling.{drafts_settled, moves}
+use Rattle.group_index.proofs.Settling.{drafts_places, drafts_settled, moves}
 use Rattle.group_index.proofs.Turns.{at_cluster_stands, changes_from}
 use Rattle.group_index.proofs.index.GroupIndex.namespace_changed.Goals as goal
 
@@ -14,6 +14,9 @@ drafts_of_namespace-requires c =
     let old = option_copied c.args.old in
     let name = c.args.name.now in
     moves follows_labels (namespace_addresses old name cluster.pods) (before_namespace old name cluster) cluster (namespace_leaves cluster c.keeps_its_form.ensures.cluster old name) c.args.self.now c.requires
+
+pub settle-requires : goal.settle-requires
+settle-requires c = drafts_places c.args.c.now.cluster c.args.self.now c.in_ok-drafts.drafts c.in_ok-drafts.ensures
 
 pub returns-clause-changes : goal.returns-clause-changes
 returns-clause-changes c = c.settle.ensures.changes ∙ (c.in_ok-drafts.ensures.changes ∙ changes_from _ c.args.c.now.cluster c.args.self.now c.requires)
