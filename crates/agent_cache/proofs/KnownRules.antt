@@ -1,5 +1,5 @@
 -- The state of a rule by what is known of the rules.
-use Rattle.std.proofs.Common.{◌≡◌, List, Bool, true, false, Option, Some, None, option_map, refl, sym, ap, subst, ◌∙◌}
+use Rattle.std.proofs.Common.{◌≡◌, List, true, false, Option, Some, None, option_map, refl, sym, ap, subst, ◌∙◌}
 use Rattle.std.specs.Option.{is_none}
 use Rattle.cl_types.specs.declared.keys.RuleKey.{RuleKey}
 use Rattle.std.specs.List.{flat_map}

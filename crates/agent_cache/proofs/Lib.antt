@@ -1,9 +1,7 @@
+pub mod BesidePeers
 pub mod Finding
 pub mod KnownRules
-pub mod ListedAddresses
 pub mod Lists
+pub mod ListsBetween
 pub mod Missing
-pub mod OneInForce
-pub mod OneList
-pub mod PartLists
 pub mod Plans

@@ -1,10 +1,9 @@
 -- What a cache is, and a message that is planned (this project's own).
-use Rattle.std.specs.Prelude.{◌≡◌, ℕ, List}
+use Rattle.std.specs.Prelude.{◌≡◌}
 use Rattle.cl_types.specs.declared.stream.Stream.{Stream}
 use Rattle.watch_streams.specs.declared.message.Msg.{Msg}
-use Rattle.watch_streams.specs.HeldEvaluation.{HeldMaps}
 use Rattle.watch_streams.specs.RuleChanges.{AreRuleChanges}
-use Rattle.held_maps.specs.Held.{HeldData, maps_of}
+use Rattle.held_maps.specs.Held.{maps_of}
 use Rattle.held_maps.specs.Ready.{FitsIn, IsReady, after_ready}
 use Rattle.agent_cache.specs.CacheData.{CacheData}
 use Rattle.agent_cache.specs.PlanData.{PlanData}

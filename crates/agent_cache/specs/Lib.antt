@@ -1,6 +1,7 @@
 pub mod Cache
 pub mod CacheData
 pub mod KnownRule
+pub mod ListsBetween
 pub mod Missing
 pub mod Outlook
 pub mod PlanData

@@ -7,7 +7,6 @@ mod changes;
 mod differences;
 mod egresses;
 mod isolation;
-mod laws;
 mod outlook;
 mod parts;
 mod peers;
@@ -18,9 +17,6 @@ mod standing;
 mod states;
 
 pub use cache::Cache;
-pub use laws::{
-    isolated_addresses_are_listed, rules_in_force_are_one, unlisted_addresses_go_out_plain,
-};
 pub use plan::Plan;
 pub use standing::RuleState;
 

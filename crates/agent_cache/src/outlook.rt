@@ -39,7 +39,7 @@ pub(crate) fn foretell(
     ensures { IfOk result (IsOutlook node.now s m.now held.now) }
 {
     let after = held_after(held, s, m)?;
-    let changes = changes_between(alloc, node, held, &after)?;
+    let changes = changes_between(alloc, node, held, &after, s, m)?;
     let standings = standings(alloc, &after)?;
     Ok(Outlook { changes, standings })
 }

@@ -5,7 +5,7 @@ ghost use Rattle.cl_types.specs.First.{earlier, first};
 ghost use Rattle.label_select.specs.Group.{Group};
 ghost use Rattle.label_select.specs.Written.{group_text};
 ghost use Rattle.held_maps.specs.Held.{maps_of, map_on};
-ghost use Rattle.watch_streams.specs.HeldEvaluation.{groups_of, is_held};
+ghost use Rattle.watch_streams.specs.HeldEvaluation.{is_held};
 ghost use Rattle.agent_cache.specs.Missing.{by_text, missing_group, named_groups, not_held};
 
 use cl_types::{Copies, Keyed, NoMemory, RuleKey, Stream, Text};
@@ -13,7 +13,8 @@ use held_maps::{Held, resolving_stream};
 use label_select::{GroupKey, write_group};
 use std::alloc::Global;
 use std::marker::Model;
-use watch_streams::{NetPeers, NetPolicy, NetRule};
+use touched_rules::peer_groups;
+use watch_streams::{NetPolicy, NetRule};
 
 fn title(alloc: Global, g: &GroupKey) -> Result<Text, NoMemory>
     ensures { IfOk result (λ title. title ≡ group_text g.now) }
@@ -76,15 +77,6 @@ fn least_of<'a>(
         }
     }
     Ok(least)
-}
-
-fn peer_groups(peers: &Option<NetPeers>) -> &[GroupKey]
-    ensures { result.now ≡ groups_of peers.now }
-{
-    match peers {
-        None => &[],
-        Some(peers) => peers.groups.as_slice(),
-    }
 }
 
 // The groups at which the rule's named ports are looked up, where it has some.

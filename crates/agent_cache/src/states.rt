@@ -7,12 +7,12 @@ ghost use Rattle.watch_streams.specs.HeldEvaluation.{HeldMaps};
 ghost use Rattle.agent_cache.specs.KnownRule.{KnownRule};
 ghost use Rattle.agent_cache.specs.Standing.{IsStateOf, TellsRule, TellsState, standing, standings};
 
-use crate::rules::{HeldRule, held_rules};
 use crate::standing::{RuleState, Standing, missing_of};
 use cl_types::{Copies, NoMemory, RuleKey, find};
 use held_maps::Held;
 use label_select::GroupKey;
 use std::alloc::Global;
+use touched_rules::{HeldRule, held_rules};
 
 fn standing(alloc: Global, held: &Held, r: &HeldRule) -> Result<Standing, NoMemory>
     ensures { IfOk result (λ s. s ≡ standing (maps_of held.now) r.now) }

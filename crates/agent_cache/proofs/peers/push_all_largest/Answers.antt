@@ -1,9 +1,8 @@
 use Rattle.std.proofs.Common.{◌≡◌, ◌++◌, [], List, take, append_assoc, refl, ap, subst, ◌∙◌, rules}
 use Rattle.std.proofs.lemmas.List.{take_all}
-use Rattle.cl_types.specs.Prefix.{PrefixData}
 use Rattle.cluster_types.specs.declared.policy.Block.{Block}
 use Rattle.watch_streams.specs.InForce.{AreBlocksOf}
-use Rattle.agent_cache.proofs.PartLists.{blocks_step, nothing_behind}
+use Rattle.touched_rules.proofs.PartLists.{blocks_step, nothing_behind}
 use Rattle.agent_cache.proofs.peers.push_all_largest.Goals as goal
 
 pub loop-block-init : goal.loop-block-init

@@ -1,8 +1,8 @@
-use Rattle.std.proofs.Common.{◌≡◌, List, [], ◌∷◌, ◌++◌, Bool, true, false, filter, subst, sym}
+use Rattle.std.proofs.Common.{◌≡◌, List, [], ◌∷◌, ◌++◌, true, false, filter, subst, sym}
 use Rattle.held_maps.specs.Held.{maps_of}
 use Rattle.watch_streams.specs.declared.rule_changes.RuleParts.{RuleParts}
 use Rattle.watch_streams.specs.InForce.{ArePartsOf, HeldRule, IsParts}
-use Rattle.agent_cache.proofs.PartLists.{is_in_force, parts_kept, parts_passed}
+use Rattle.touched_rules.proofs.PartLists.{is_in_force, parts_kept, parts_passed}
 use Rattle.agent_cache.proofs.rules.push_parts.Goals as goal
 
 pub returns-then-is_complete : goal.returns-then-is_complete

@@ -1,5 +1,0 @@
-use Rattle.agent_cache.proofs.OneInForce.{rules_one}
-use Rattle.agent_cache.proofs.laws.rules_in_force_are_one.Goals as goal
-
-pub returns : goal.returns
-returns c = rules_one

@@ -1,5 +1,0 @@
-use Rattle.agent_cache.proofs.ListedAddresses.{plain_beside}
-use Rattle.agent_cache.proofs.laws.unlisted_addresses_go_out_plain.Goals as goal
-
-pub returns : goal.returns
-returns c = plain_beside

@@ -1,6 +1,0 @@
-use Rattle.std.proofs.Common.{◌≡◌, ◌++◌, map, take}
-use Rattle.agent_cache.proofs.rules.push_rules.Given as goal
-
-abbrev pub invariant-loop-rule : goal.invariant-loop-rule
-invariant-loop-rule l =
-    l.out.items ≡ l.initial.out.items ++ map (λ r. record { policy = l.policy; rule = r }) (take l.rule-index l.rules)

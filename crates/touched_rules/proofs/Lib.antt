@@ -1,0 +1,11 @@
+pub mod InForceAtAll
+pub mod LargestBlocks
+pub mod ListedAddresses
+pub mod OneInForce
+pub mod OneList
+pub mod OnlyTouched
+pub mod PartLists
+pub mod SameTexts
+pub mod TouchedPolicies
+pub mod TouchedRules
+pub mod UnderKeys
