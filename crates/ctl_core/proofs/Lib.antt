@@ -6,8 +6,11 @@ mod Counting
 mod InUse
 mod Keeping
 mod Leading
+mod Making
 mod OneKept
 mod Revising
 mod SoFar
+mod Spreading
 mod TakingBack
+mod Told
 mod Touches

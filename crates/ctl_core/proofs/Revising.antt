@@ -1,8 +1,10 @@
 -- What every controller keeps holds of one that made a revision.
-use Rattle.std.proofs.Common.{◌≡◌, ◌+◌, List, [], ◌∷◌, true, false, map, sym, ap, ap₂, refl, subst, ◌∙◌}
+use Rattle.std.proofs.Common.{◌≡◌, ◌≤◌, List, [], ◌∷◌, Bool, false, length, map, sym, ap, ap₂, refl, subst, ◌∙◌, arith}
+use Rattle.std.proofs.lemmas.List.{length-map}
 use Rattle.cl_types.specs.declared.stream.Rev.{Rev}
 use Rattle.cluster_types.specs.declared.change.Change.{Change}
 use Rattle.cluster_types.specs.Cluster.{ClusterData, IsCluster}
+use Rattle.cluster_types.specs.Limits.{max_nodes}
 use Rattle.cluster_types.specs.Node.{NodeData}
 use Rattle.cl_types.specs.Text.{text_order}
 use Rattle.group_index.specs.Index.{EntryData}
@@ -10,11 +12,10 @@ use Rattle.node_objects.specs.Sides.{IsSide}
 use Rattle.watch_streams.specs.Ports.{PortState}
 use Rattle.node_streams.specs.declared.messages.NodeMessages.{NodeMessages}
 use Rattle.ctl_core.specs.Controller.{ControllerData, IsController, KeepsSides}
-use Rattle.ctl_core.specs.declared.outcome.StreamOf.{StreamOf}
-use Rattle.ctl_core.specs.Line.{IsSpent, LeavesNodes, Revises}
-use Rattle.ctl_core.specs.Telling.{messages_of, streams_cut}
+use Rattle.ctl_core.specs.Line.{LeavesNodes}
+use Rattle.ctl_core.specs.Telling.{messages_of}
 use Rattle.ctl_core.specs.Trying.{Leads}
-use Rattle.ctl_core.specs.Uses.{IsCounted}
+use Rattle.ctl_core.specs.Uses.{IsCounted, IsSameSide}
 use Rattle.node_streams.specs.Streams.{NodeStreams}
 use Rattle.node_streams.specs.Telling.{AreTold}
 use Rattle.node_streams.specs.StreamLaws.{ascend_by_names, name}
@@ -60,3 +61,24 @@ pub keeps_on : {P : Type 0} (state : P → PortState) (Same : P → P → Type 0
 keeps_on state Same changes seen next ahead cluster others more groups rev nodes keeps unspent first then left whole side counted counted_ahead told =
     revised state Same (messages_of seen.cluster ahead rev) seen cluster groups rev nodes ahead more keeps.controller whole side left told
     (both_led changes seen next ahead cluster others keeps unspent first then) counted counted_ahead
+
+-- what every controller keeps holds where nothing of a line came about, and of one that is spent
+pub kept_still : {P : Type 0} (c : ControllerData P) (spent : Bool) (next ahead : ClusterData) (others more : List EntryData) → KeepsSides c next others → c.spent ≡ false
+    → (spent ≡ false → IsSameSide next others ahead more) → KeepsSides (record c { spent = spent }) ahead more
+kept_still c spent next ahead others more keeps unspent side = record {
+  controller = record {
+    cluster = keeps.controller.cluster;
+    fixed = keeps.controller.fixed;
+    nodes = keeps.controller.nodes;
+    ascend = keeps.controller.ascend;
+    groups = λ none. keeps.controller.groups unspent;
+  };
+  same = λ none. (side none).cluster ∙ keeps.same unspent;
+  present = λ none. keeps.present unspent;
+  next = λ none. subst (λ x. IsCounted x more) (sym (side none).cluster) (subst (λ x. IsCounted next x) (sym (side none).groups) (keeps.next unspent));
+}
+
+-- no more nodes than a cluster may have
+pub few_nodes : {P : Type 0} (c : ControllerData P) → IsController c → length c.nodes ≤ max_nodes
+few_nodes c is =
+    omega (arith, length-map c.nodes (λ (n : NodeStreams _). n.node), ap length is.nodes, length-map c.cluster.nodes (λ (n : NodeData). n.name), is.cluster.limits.nodes)

@@ -1,5 +1,5 @@
 -- Which names a change touches.
-use Rattle.std.proofs.Common.{◌≡◌, ℕ, List, [], ◌∷◌, ◌++◌, Bool, true, false, ◌||◌, filter, map, Option, Some, None, option_map, Ok, refl, sym, ap, ap₂, subst, ◌∙◌}
+use Rattle.std.proofs.Common.{◌≡◌, ℕ, List, [], ◌∷◌, ◌++◌, true, false, filter, map, Option, Some, None, option_map, Ok, refl, sym, ap, ap₂, subst, ◌∙◌}
 use Rattle.std.specs.List.{AllByRecursion, flat_map, list_any}
 use Rattle.std.specs.Option.{option_map_or}
 use Rattle.std.specs.Ordering.{is_eq}
@@ -10,7 +10,6 @@ use Rattle.cl_types.specs.declared.stream.Stream.{Stream}
 use Rattle.cl_types.specs.Ascending.{found}
 use Rattle.cl_types.specs.AscendingLaws.{found_holds}
 use Rattle.cl_types.specs.ListLaws.{all_weaker}
-use Rattle.cl_types.specs.PolicyName.{PolicyName}
 use Rattle.cl_types.specs.Text.{text_order, text_order_total}
 use Rattle.label_select.specs.Group.{Group}
 use Rattle.label_select.specs.Written.{group_text}
@@ -27,34 +26,33 @@ use Rattle.cluster_objects.specs.Apply.{Outcome, made, numbered, numbered_policy
 use Rattle.cluster_objects.specs.Changes.{apply, is_node, key_of, standing}
 use Rattle.group_index.specs.declared.change.GroupChange.{GroupChange}
 use Rattle.group_index.specs.ChangeLaws.{unchanged_is_same}
-use Rattle.group_index.specs.Changes.{before_namespace, before_pod, change_if_any, changes_between, group_change, members_without}
-use Rattle.group_index.specs.Index.{EntryData, StandsFor, at_group, entry_of, members_in}
+use Rattle.group_index.specs.Changes.{at_cluster, before_namespace, before_pod, change_if_any, changes_between, group_change, members_without}
+use Rattle.group_index.specs.Index.{EntryData, StandsFor, at_group, entry_of}
 use Rattle.group_index.specs.MemberLaws.{members_are_told, members_on_are_told}
 use Rattle.group_index.specs.Members as index
 use Rattle.watch_streams.specs.declared.message.StreamName.{StreamName}
 use Rattle.watch_streams.specs.declared.message.StreamName.TheVariants as name
 use Rattle.watch_streams.specs.Difference.{difference}
 use Rattle.watch_streams.specs.MemberOrder.{member_order_total}
-use Rattle.watch_streams.specs.Projection.{group_members, members_on, projection}
+use Rattle.watch_streams.specs.Projection.{members_on, projection}
 use Rattle.touched_names.specs.Elsewhere.{SameElsewhere, TouchedNamesJoin, TouchedNamesTellAll, changes_under}
 use Rattle.touched_names.specs.Standing.{at_egress, at_policy, has_group, is_group}
-use Rattle.touched_names.specs.Touching.{MembersTellSpans, MovedGroupsTouch, OthersStay, SameMembers, SameRules, Stays, applies_to_some, egress_applies_to_some, egress_names, group_names, moved_names, named_groups, policy_names}
+use Rattle.touched_names.specs.Touching.{MovedGroupsTouch, OthersStay, SameMembers, SameRules, SameSpan, Stays, applies_to_some, egress_applies_to_some, egress_names, group_names, moved_names, named_groups, policy_names}
 use Rattle.ctl_core.specs.Following.{StandsBefore, namespace_in, pod_in}
 use Rattle.node_objects.specs.Indexed.{told}
 use Rattle.node_objects.specs.Sides.{IsInUse}
 use Rattle.ctl_core.specs.Touched.{AreTouched, ChangesTouch, TouchesOn, changed_groups, names_if_any, names_of_moved, touched_by}
 use Rattle.ctl_core.specs.Uses.{IsCounted}
 use Rattle.ctl_core.proofs.Changing.{numbered_key, numbered_names}
+use Rattle.ctl_core.specs.Spread.{spread_groups}
 use Rattle.ctl_core.proofs.Coming.{unless_ok}
+use Rattle.ctl_core.proofs.Spreading.{or_both, spread_stays}
+use Rattle.node_objects.specs.NodeLaws.{pods_on_is}
 use Rattle.node_objects.specs.SideLaws.{follows, in_use_members}
 use Rattle.ctl_core.proofs.Counted.{counted_used}
 use Rattle.node_objects.specs.SideLaws.{TextsDiffer}
 
 -- ---- groups that don't change
-
-or_both : (a b : Bool) → (a || b) ≡ false → (a ≡ false) × (b ≡ false)
-or_both true b h = cc
-or_both false b h = (refl, h)
 
 group_itself : (g h : Group) → h ≡ g → is_group g h ≡ true
 group_itself g h same = ap (λ (x : Group). is_eq (text_order (group_text x) (group_text g))) same ∙ ap is_eq (tied_itself text_order_total (group_text g))
@@ -116,21 +114,36 @@ moved_at moved spread c d policies egresses =
     ap₂ (λ ps es. group_names moved ++ (flat_map policy_names (filter (applies_to_some spread) ps) ++ flat_map egress_names (filter (egress_applies_to_some spread) es)))
     (sym policies) (sym egresses)
 
-module _ (moved_touch : MovedGroupsTouch) (spans : MembersTellSpans) (differ : TextsDiffer) (c d : ClusterData) (whole : IsCluster c) (after : IsCluster d) (entries : List EntryData) (counted : IsCounted c entries) where
-  -- where the index stands for what the cluster was, only the groups that it tells of have moved
-  others_stay : (before : ClusterData) → StandsFor entries before → OthersStay (changed_groups (changes_between before d entries)) (changed_groups (changes_between before d entries)) c d
-  others_stay before stands =
-      all_weaker (IsInUse entries) (Stays (changed_groups (changes_between before d entries)) (changed_groups (changes_between before d entries)) c d)
-      (λ g used. record { members = same g used; span = λ none. spans c d g (same g used none) }) (named_groups c) (counted_used differ c entries whole counted)
-    where
-      same : (g : Group) → IsInUse entries g → has_group (changed_groups (changes_between before d entries)) g ≡ false → SameMembers c d g
-      same g used none =
-          told_same c d whole after g (sym (in_use_members c entries counted.stands g used) ∙ (in_use_members before entries stands g used ∙ members_stay before d g entries used none))
+module _ (moved_touch : MovedGroupsTouch) (differ : TextsDiffer) (c d : ClusterData) (whole : IsCluster c) (after : IsCluster d) (entries : List EntryData) (counted : IsCounted c entries) where
+  module _ (before : ClusterData) (stands : StandsFor entries before) where
+    abbrev changes : List GroupChange
+    changes = changes_between before d entries
 
-  moved_so : (before : ClusterData) → StandsFor entries before → SameRules c d → SameElsewhere (names_of_moved (changes_between before d entries) d) c d
-  moved_so before stands rules =
-      subst (λ names. SameElsewhere names c d) (moved_at (changed_groups (changes_between before d entries)) (changed_groups (changes_between before d entries)) c d rules.policies rules.egresses)
-      (moved_touch (changed_groups (changes_between before d entries)) (changed_groups (changes_between before d entries)) c d rules (others_stay before stands))
+    abbrev spread : List Group
+    spread = spread_groups (at_cluster d entries) changes
+
+    members_before : (g : Group) → IsInUse entries g → index.members_of c g ≡ index.members_of before g
+    members_before g used = sym (in_use_members c entries counted.stands g used) ∙ in_use_members before entries stands g used
+
+    same_members : (g : Group) → IsInUse entries g → has_group (changed_groups changes) g ≡ false → SameMembers c d g
+    same_members g used none = told_same c d whole after g (members_before g used ∙ members_stay before d g entries used none)
+
+    same_span : (g : Group) → IsInUse entries g → has_group spread g ≡ false → SameSpan c d g
+    same_span g used none node =
+        sym (pods_on_is c whole node g)
+        ∙ (ap (list_any (index.is_member_on node)) (members_before g used)
+        ∙ (spread_stays before d g entries node (group_itself g g refl) used none ∙ pods_on_is d after node g))
+
+    -- where the index stands for what the cluster was, only the groups that it tells of have moved, or spread
+    others_stay : OthersStay (changed_groups changes) spread c d
+    others_stay =
+        all_weaker (IsInUse entries) (Stays (changed_groups changes) spread c d)
+        (λ g used. record { members = same_members g used; span = same_span g used }) (named_groups c) (counted_used differ c entries whole counted)
+
+    moved_so : SameRules c d → SameElsewhere (names_of_moved changes (at_cluster d entries) d) c d
+    moved_so rules =
+        subst (λ names. SameElsewhere names c d) (moved_at (changed_groups changes) spread c d rules.policies rules.egresses)
+        (moved_touch (changed_groups changes) spread c d rules others_stay)
 
 -- ---- policies, Egresses and tiers
 
@@ -158,10 +171,10 @@ module _ (laws : ChangesTouch) (differ : TextsDiffer) (c : ClusterData) (whole :
   made_touches : (change : Change) → is_node change ≡ false → Touches change (standing c (key_of change)) (made c (numbered c change)).cluster
   made_touches (Put (object.Node n)) is after stands = cc
   made_touches (Put (object.Namespace n)) is after stands =
-      moved_so laws.moved laws.spans differ c (made c (Put (object.Namespace n))).cluster whole after entries counted
+      moved_so laws.moved differ c (made c (Put (object.Namespace n))).cluster whole after entries counted
       (before_namespace (namespace_in (standing c (key.Namespace n.name))) n.name (made c (Put (object.Namespace n))).cluster) stands (record { policies = refl; egresses = refl; nodes = refl })
   made_touches (Put (object.Pod p)) is after stands =
-      moved_so laws.moved laws.spans differ c (made c (Put (object.Pod p))).cluster whole after entries counted
+      moved_so laws.moved differ c (made c (Put (object.Pod p))).cluster whole after entries counted
       (before_pod (pod_in (standing c (key.Pod p.key))) (Some p) (made c (Put (object.Pod p))).cluster) stands (record { policies = refl; egresses = refl; nodes = refl })
   made_touches (Put (object.Tier t)) is after stands =
       subst (λ names. SameElsewhere names c (made c (Put (object.Tier t))).cluster) (tier_stood (tier_named t.name c.tiers))
@@ -175,10 +188,10 @@ module _ (laws : ChangesTouch) (differ : TextsDiffer) (c : ClusterData) (whole :
       (laws.put_egresses c (made c (Put (object.Egress e))).cluster e (record { ground = record { nodes = refl; namespaces = refl; pods = refl }; policies = refl }) refl)
   made_touches (Remove (key.Node n)) is after stands = cc
   made_touches (Remove (key.Namespace n)) is after stands =
-      moved_so laws.moved laws.spans differ c (made c (Remove (key.Namespace n))).cluster whole after entries counted
+      moved_so laws.moved differ c (made c (Remove (key.Namespace n))).cluster whole after entries counted
       (before_namespace (namespace_in (standing c (key.Namespace n))) n (made c (Remove (key.Namespace n))).cluster) stands (record { policies = refl; egresses = refl; nodes = refl })
   made_touches (Remove (key.Pod p)) is after stands =
-      moved_so laws.moved laws.spans differ c (made c (Remove (key.Pod p))).cluster whole after entries counted
+      moved_so laws.moved differ c (made c (Remove (key.Pod p))).cluster whole after entries counted
       (before_pod (pod_in (standing c (key.Pod p))) None (made c (Remove (key.Pod p))).cluster) stands (record { policies = refl; egresses = refl; nodes = refl })
   made_touches (Remove (key.Tier t)) is after stands =
       subst (λ names. SameElsewhere names c (made c (Remove (key.Tier t))).cluster) (tier_stood (tier_named t c.tiers))

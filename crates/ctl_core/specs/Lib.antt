@@ -3,6 +3,7 @@ pub mod Following
 pub mod Laws
 pub mod Line
 pub mod Naming
+pub mod Spread
 pub mod Telling
 pub mod Touched
 pub mod Trying

@@ -45,6 +45,19 @@ ComesTo result (Ok differs) new = result ≡ Ok (came_to new differs)
 ComesTo result (Err NoMemory) new = Unit {0}
 ComesTo result (Err refusal) new = result ≡ Err refusal
 
+-- unless a difference was made, or memory ran out, all is as it was
+abbrev pub UnlessMade : Result Bool ClusterRefusal → Type 0 → Type 0
+UnlessMade (Ok true) Same = Unit {0}
+UnlessMade (Ok false) Same = Same
+UnlessMade (Err NoMemory) Same = Unit {0}
+UnlessMade (Err refusal) Same = Same
+
+-- changes made a difference, or memory ran out, maybe in the middle of them
+abbrev pub is_under_way : Result Bool ClusterRefusal → Bool
+is_under_way (Ok differs) = differs
+is_under_way (Err NoMemory) = true
+is_under_way (Err refusal) = false
+
 -- the nodes are the same ones, and fixed
 pub record LeavesNodes (old new : ClusterData) : Type 0 where
   pub nodes : new.nodes ≡ old.nodes

@@ -40,6 +40,11 @@ pub record IsCounted (c : ClusterData) (index : List EntryData) : Type 0 where
   pub groups : AreGroups index
   pub uses : (g : Group) → uses_of index g ≡ times g (named_groups c)
 
+-- the cluster and its groups in use are the same
+pub record IsSameSide (c : ClusterData) (index : List EntryData) (d : ClusterData) (other : List EntryData) : Type 0 where
+  pub cluster : d ≡ c
+  pub groups : other ≡ index
+
 -- ---- what one object names
 
 abbrev pub named_by : ClusterData → Object → List Group

@@ -1,15 +1,13 @@
-ghost use Rattle.std.specs.Prelude.{◌≡◌, ◌<◌, ◌^◌, IfOk, IsSome, OnErr, OnOk, Some, false, is_some, length, option_map};
+ghost use Rattle.std.specs.Prelude.{◌≡◌, ◌<◌, ◌^◌, IfOk, IsSome, Some, false, is_some, length, option_map};
 ghost use Rattle.cluster_types.specs.Cluster.{HasNodesAlone};
-ghost use Rattle.ctl_core.specs.Trying.{Leads};
 ghost use Rattle.ctl_core.specs.Controller.{ChangesOneStream, IsController, IsNew, IsUnspent, Rejoins, live_at};
-ghost use Rattle.ctl_core.specs.Line.{IsRevised, IsSpent, TakesLine};
+ghost use Rattle.ctl_core.specs.Line.{TakesLine};
 ghost use Rattle.stream_messages.specs.Messages.{snapshot};
 ghost use Rattle.node_streams.specs.Streams.{Begins, IsCut, TakesFrom, stream_of, streams_at};
 
-use crate::applying::apply_and_name;
+use crate::applying::{by_text, is_under_way, make_line};
 use crate::outcome::{Outcome, RejoinFault};
 use crate::side::Side;
-use crate::trying::foretold;
 use crate::turns::tell_all;
 use cl_types::{List, NoMemory, Rev, Stream, Text};
 use cluster_objects::{Change, Cluster, ClusterRefusal};
@@ -20,13 +18,14 @@ use node_streams::{
 };
 use std::alloc::Global;
 use std::marker::Model;
+use touched_names::touched_names_join;
 use watch_streams::{Msg, Port, QueuePort};
 
 /// The cluster of the last revision, the groups in use, and the streams of each node.
 #[derive(Drop)]
 pub struct Controller<P: Port> {
-    // The cluster stands twice, with its groups each time: a line is tried and taken on the next side, while the present
-    // one is still the last revision's, and then on that.
+    // The cluster stands twice, with its groups each time: a line is taken on the next side, while the present one is
+    // still the last revision's, and then on that.
     present: Side,
     next: Side,
     revision: Rev,
@@ -151,36 +150,28 @@ impl<P: Port + Drop> Controller<P> {
         requires revision { self.old.revision.0 < 2 ^ 32 }
         ensures { TakesLine P.state P.same changes result self.old self.new }
     {
+        touched_names_join();
         let alloc = *self.nodes.allocator();
-        if !foretold(alloc, &mut self.next.cluster, changes.as_slice())? {
+        let mut touched = Vec::new(alloc);
+        let made = make_line(alloc, &mut self.next, changes.as_slice(), &mut touched);
+        // Until all of it is made the controller is spent.
+        self.spent = is_under_way(&made);
+        if !made? {
             return Ok(Outcome::Unchanged);
         }
-        Ok(self.revise(changes.as_slice())?)
-    }
-
-    // Makes the next revision of changes of which none is refused. Until all of it is made the controller is spent.
-    fn revise(&mut self, changes: &[Change]) -> Result<Outcome, NoMemory>
-        requires unspent { IsUnspent self.old }
-        requires revision { self.old.revision.0 < 2 ^ 32 }
-        ensures revised { IfOk result (IsRevised P.state P.same self.new.cluster self.old self.new) }
-        ensures leads { OnOk result (Leads changes.now self.old.cluster self.new.cluster) }
-        ensures err { OnErr result (IsSpent self.old self.new) }
-    {
-        let alloc = *self.nodes.allocator();
-        self.spent = true;
-        let touched = apply_and_name(alloc, &mut self.next, changes)?;
+        let touched = by_text(alloc, touched)?;
         let rev = Rev(self.revision.0 + 1);
         let Ok(cut) = tell_all(
             alloc,
             &mut self.present,
             &self.next,
             touched.as_slice(),
-            changes,
+            changes.as_slice(),
             rev,
             &mut self.nodes,
         ) else {
             self.present.cluster.keeps_its_form();
-            return Err(NoMemory);
+            return Err(ClusterRefusal::NoMemory);
         };
         self.present.cluster.keeps_its_form();
         self.present.has_all_in_use();

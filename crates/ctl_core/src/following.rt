@@ -1,6 +1,6 @@
 //! The index of groups follows a change of its cluster.
 ghost use Rattle.std.specs.Prelude.{◌≡◌, ◌≤◌, ◌++◌, IfOk, OnOk, option_copied};
-ghost use Rattle.group_index.specs.Changes.{before_namespace, before_pod, changes_between};
+ghost use Rattle.group_index.specs.Changes.{at_cluster, before_namespace, before_pod, changes_between};
 ghost use Rattle.group_index.specs.Index.{StandsFor};
 ghost use Rattle.label_select.specs.Group.{Group};
 ghost use Rattle.ctl_core.specs.Following.{IsMoved, StandsBefore, namespace_in, pod_in};
@@ -43,10 +43,10 @@ fn pod_moved(
 ) -> Result<(), NoMemory>
     requires { StandsFor index.old (before_pod (option_copied old) (option_copied new) c.now.cluster) }
     ensures moved { OnOk result (IsMoved c.now.cluster index.old index.new) }
-    ensures touched { OnOk result (touched.new.items ≡ touched.old.items ++ names_of_moved (changes_between (before_pod (option_copied old.entry) (option_copied new.entry) c.now.cluster) c.now.cluster index.old) c.now.cluster) }
+    ensures touched { OnOk result (touched.new.items ≡ touched.old.items ++ names_of_moved (changes_between (before_pod (option_copied old.entry) (option_copied new.entry) c.now.cluster) c.now.cluster index.old) (at_cluster c.now.cluster index.old) c.now.cluster) }
 {
     let changes = index.pod_changed(c, old, new)?;
-    push_moved(touched, c, changes.as_slice())?;
+    push_moved(touched, index, c, changes.as_slice())?;
     Ok(())
 }
 
@@ -59,10 +59,10 @@ fn namespace_moved(
 ) -> Result<(), NoMemory>
     requires { StandsFor index.old (before_namespace (option_copied old) name.now c.now.cluster) }
     ensures moved { OnOk result (IsMoved c.now.cluster index.old index.new) }
-    ensures touched { OnOk result (touched.new.items ≡ touched.old.items ++ names_of_moved (changes_between (before_namespace (option_copied old.entry) name.now c.now.cluster) c.now.cluster index.old) c.now.cluster) }
+    ensures touched { OnOk result (touched.new.items ≡ touched.old.items ++ names_of_moved (changes_between (before_namespace (option_copied old.entry) name.now c.now.cluster) c.now.cluster index.old) (at_cluster c.now.cluster index.old) c.now.cluster) }
 {
     let changes = index.namespace_changed(c, old, name)?;
-    push_moved(touched, c, changes.as_slice())?;
+    push_moved(touched, index, c, changes.as_slice())?;
     Ok(())
 }
 

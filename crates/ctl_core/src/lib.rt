@@ -8,6 +8,7 @@ mod laws;
 mod naming;
 mod outcome;
 mod side;
+mod spread;
 mod telling;
 mod touched;
 mod trying;

@@ -2,11 +2,11 @@
 ghost use Rattle.std.specs.Prelude.{◌≡◌, ◌++◌, IfOk, OnErr, OnOk, option_copied, true};
 ghost use Rattle.cluster_objects.specs.Changes.{apply};
 ghost use Rattle.ctl_core.specs.Following.{StandsBefore};
-ghost use Rattle.ctl_core.specs.Line.{ComesTo, LeavesNodes, one_came};
+ghost use Rattle.ctl_core.specs.Line.{ComesTo, LeavesNodes, UnlessMade, one_came};
 ghost use Rattle.ctl_core.specs.Naming.{AreGroups};
 ghost use Rattle.node_objects.specs.Sides.{IsSide};
 ghost use Rattle.ctl_core.specs.Touched.{TouchesOn, touched_by};
-ghost use Rattle.ctl_core.specs.Uses.{CountsBefore, IsCounted, new_object};
+ghost use Rattle.ctl_core.specs.Uses.{CountsBefore, IsCounted, IsSameSide, new_object};
 
 use crate::applying::other_differs;
 use crate::following::{drop_all, move_members, put_all};
@@ -38,7 +38,8 @@ impl Side {
     }
 
     /// Makes a change, appends the names that it touches, and tells whether one of something other than a Node made a
-    /// difference. Where memory is wanting, the index may have followed in part, and the side is of no more use.
+    /// difference. Where it is refused or made none, the side is as it was. Where memory is wanting, the index may have
+    /// followed in part, and the side is of no more use.
     pub(crate) fn apply(
         &mut self,
         alloc: Global,
@@ -48,6 +49,7 @@ impl Side {
         requires fixed { self.old.cluster.cluster.fixed ≡ true }
         requires counted { IsCounted self.old.cluster.cluster self.old.groups }
         ensures made { ComesTo (one_came change.now (apply self.old.cluster.cluster change.now)) result self.new.cluster.cluster }
+        ensures same { UnlessMade result (IsSameSide self.old.cluster.cluster self.old.groups self.new.cluster.cluster self.new.groups) }
         ensures nodes { LeavesNodes self.old.cluster.cluster self.new.cluster.cluster }
         ensures counted { OnOk result (IsCounted self.new.cluster.cluster self.new.groups) }
         ensures touched { OnOk result (TouchesOn touched.old.items touched.new.items self.old.cluster.cluster self.new.cluster.cluster) }

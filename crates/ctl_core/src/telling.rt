@@ -1,22 +1,20 @@
 //! The messages of a revision: what each live stream of each node is told.
-ghost use Rattle.std.specs.Prelude.{◌≡◌, ◌++◌, map, if◌then◌else◌, Some, None, IfOk, OnOk};
+ghost use Rattle.std.specs.Prelude.{◌≡◌, map, if◌then◌else◌, Some, None, IfOk};
+ghost use Rattle.std.specs.List.{AllByRecursion, flat_map};
 ghost use Rattle.node_objects.specs.Sides.{IsSide};
-ghost use Rattle.ctl_core.specs.Touched.{AreTouched};
+ghost use Rattle.node_objects.specs.Touched.{IsTouched};
 ghost use Rattle.stream_messages.specs.Messages.{delta};
-ghost use Rattle.touched_names.specs.Elsewhere.{changes_under};
-ghost use Rattle.touched_names.specs.Standing.{standing};
-ghost use Rattle.watch_streams.specs.Difference.{changed};
 ghost use Rattle.ctl_core.specs.Telling.{messages_of, named_stream, names_of, turn_of};
+ghost use Rattle.ctl_core.specs.Touched.{AreToldOf, changed_under};
 
 use crate::outcome::StreamOf;
 use crate::side::Side;
 use cl_types::{Copies, List, NoMemory, Rev, Stream, Text};
-use node_objects::standing;
+use node_objects::{TouchedName, push_touched};
 use node_streams::{NodeMessages, NodePorts};
 use std::alloc::Global;
-use stream_messages::{TitledName, push_change};
 use touched_names::touched_names_tell_all;
-use watch_streams::{Changes, Msg, Port, StreamChange, StreamName};
+use watch_streams::{Changes, Msg, Port, StreamChange};
 
 /// The streams of a node, by name.
 #[derive(Debug, Drop)]
@@ -33,42 +31,32 @@ pub(crate) struct Turn {
     pub(crate) names: NodeNames,
 }
 
-// Appends what changes on a stream of a node under the name.
-fn push_under(
-    changes: &mut Vec<StreamChange>,
-    old: &Side,
-    new: &Side,
-    s: Stream,
-    node: &Text,
-    name: &StreamName,
-) -> Result<(), NoMemory>
-    requires old { IsSide old.now.cluster.cluster old.now.groups }
-    requires new { IsSide new.now.cluster.cluster new.now.groups }
-    ensures { OnOk result (changes.new.items ≡ changes.old.items ++ changed (standing old.now.cluster.cluster s node.now name.now) (standing new.now.cluster.cluster s node.now name.now)) }
-{
-    let alloc = *changes.allocator();
-    let before = standing(alloc, &old.cluster, &old.groups, s, node, name)?;
-    let after = standing(alloc, &new.cluster, &new.groups, s, node, name)?;
-    push_change(changes, before.as_ref(), after.as_ref())?;
-    Ok(())
-}
-
 // What changes on a stream of a node under these names.
 fn changes_under(
     alloc: Global,
     old: &Side,
     new: &Side,
-    touched: &[TitledName],
+    touched: &[TouchedName],
     s: Stream,
     node: &Text,
 ) -> Result<Vec<StreamChange>, NoMemory>
     requires old { IsSide old.now.cluster.cluster old.now.groups }
     requires new { IsSide new.now.cluster.cluster new.now.groups }
-    ensures { IfOk result (λ changes. changes.items ≡ changes_under old.now.cluster.cluster new.now.cluster.cluster s node.now touched.now) }
+    requires touched { AllByRecursion (IsTouched old.now.cluster.cluster old.now.groups new.now.cluster.cluster new.now.groups) touched.now }
+    ensures { IfOk result (λ changes. changes.items ≡ flat_map (changed_under old.now.cluster.cluster new.now.cluster.cluster s node.now) touched.now) }
 {
     let mut changes = Vec::new(alloc);
-    for titled in touched {
-        push_under(&mut changes, old, new, s, node, titled.name())?;
+    for t in touched {
+        push_touched(
+            &mut changes,
+            &old.cluster,
+            &old.groups,
+            &new.cluster,
+            &new.groups,
+            s,
+            node,
+            t,
+        )?;
     }
     Ok(changes)
 }
@@ -78,14 +66,14 @@ fn delta(
     alloc: Global,
     old: &Side,
     new: &Side,
-    touched: &[TitledName],
+    touched: &[TouchedName],
     rev: Rev,
     s: Stream,
     node: &Text,
 ) -> Result<Msg, NoMemory>
     requires old { IsSide old.now.cluster.cluster old.now.groups }
     requires new { IsSide new.now.cluster.cluster new.now.groups }
-    requires touched { AreTouched touched.now old.now.cluster.cluster new.now.cluster.cluster }
+    requires touched { AreToldOf old.now.cluster.cluster old.now.groups new.now.cluster.cluster new.now.groups touched.now }
     ensures { IfOk result (λ m. m ≡ delta old.now.cluster.cluster new.now.cluster.cluster rev s node.now) }
 {
     old.cluster.keeps_its_form();
@@ -102,14 +90,14 @@ fn delta_if(
     alloc: Global,
     old: &Side,
     new: &Side,
-    touched: &[TitledName],
+    touched: &[TouchedName],
     rev: Rev,
     s: Stream,
     node: &Text,
 ) -> Result<Option<Msg>, NoMemory>
     requires old { IsSide old.now.cluster.cluster old.now.groups }
     requires new { IsSide new.now.cluster.cluster new.now.groups }
-    requires touched { AreTouched touched.now old.now.cluster.cluster new.now.cluster.cluster }
+    requires touched { AreToldOf old.now.cluster.cluster old.now.groups new.now.cluster.cluster new.now.groups touched.now }
     ensures { IfOk result (λ m. m ≡ (if live then Some (delta old.now.cluster.cluster new.now.cluster.cluster rev s node.now) else None)) }
 {
     if live {
@@ -123,13 +111,13 @@ fn node_messages<P: Port>(
     alloc: Global,
     old: &Side,
     new: &Side,
-    touched: &[TitledName],
+    touched: &[TouchedName],
     rev: Rev,
     n: &NodePorts<P>,
 ) -> Result<NodeMessages, NoMemory>
     requires old { IsSide old.now.cluster.cluster old.now.groups }
     requires new { IsSide new.now.cluster.cluster new.now.groups }
-    requires touched { AreTouched touched.now old.now.cluster.cluster new.now.cluster.cluster }
+    requires touched { AreToldOf old.now.cluster.cluster old.now.groups new.now.cluster.cluster new.now.groups touched.now }
     ensures { IfOk result (λ m. m ≡ messages_of old.now.cluster.cluster new.now.cluster.cluster rev n.now) }
 {
     let node = n.node();
@@ -193,13 +181,13 @@ fn turn_of<P: Port>(
     alloc: Global,
     old: &Side,
     new: &Side,
-    touched: &[TitledName],
+    touched: &[TouchedName],
     rev: Rev,
     n: &NodePorts<P>,
 ) -> Result<Turn, NoMemory>
     requires old { IsSide old.now.cluster.cluster old.now.groups }
     requires new { IsSide new.now.cluster.cluster new.now.groups }
-    requires touched { AreTouched touched.now old.now.cluster.cluster new.now.cluster.cluster }
+    requires touched { AreToldOf old.now.cluster.cluster old.now.groups new.now.cluster.cluster new.now.groups touched.now }
     ensures { IfOk result (λ turn. turn ≡ turn_of old.now.cluster.cluster new.now.cluster.cluster rev n.now) }
 {
     Ok(Turn {
@@ -213,13 +201,13 @@ pub(crate) fn all_turns<P: Port>(
     alloc: Global,
     old: &Side,
     new: &Side,
-    touched: &[TitledName],
+    touched: &[TouchedName],
     rev: Rev,
     nodes: &[NodePorts<P>],
 ) -> Result<Vec<Turn>, NoMemory>
     requires old { IsSide old.now.cluster.cluster old.now.groups }
     requires new { IsSide new.now.cluster.cluster new.now.groups }
-    requires touched { AreTouched touched.now old.now.cluster.cluster new.now.cluster.cluster }
+    requires touched { AreToldOf old.now.cluster.cluster old.now.groups new.now.cluster.cluster new.now.groups touched.now }
     ensures { IfOk result (λ all. all.items ≡ map (turn_of old.now.cluster.cluster new.now.cluster.cluster rev) nodes.now) }
 {
     let mut all = Vec::new(alloc);

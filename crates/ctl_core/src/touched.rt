@@ -2,14 +2,15 @@
 ghost use Rattle.std.specs.Prelude.{◌≡◌, ◌++◌, IfOk, OnOk, option_copied};
 ghost use Rattle.ctl_core.specs.Touched.{ChangesTouch, changed_groups, names_if_any, names_of_moved};
 
+use crate::spread::spread_groups;
 use cl_types::{Copies, NoMemory};
 use cluster_objects::{Cluster, Object};
-use group_index::GroupChange;
+use group_index::{GroupChange, GroupIndex};
 use label_select::GroupKey;
 use std::alloc::Global;
 use touched_names::{
-    changed_rules_touch, members_tell_spans, moved_groups_touch, push_egress_names,
-    push_moved_names, push_policy_names, tiers_and_nodes_touch_nothing,
+    changed_rules_touch, moved_groups_touch, push_egress_names, push_moved_names,
+    push_policy_names, tiers_and_nodes_touch_nothing,
 };
 use watch_streams::StreamName;
 
@@ -18,7 +19,6 @@ pub(crate) fn changes_touch()
     ensures { ChangesTouch }
 {
     moved_groups_touch();
-    members_tell_spans();
     changed_rules_touch();
     tiers_and_nodes_touch_nothing();
 }
@@ -55,16 +55,23 @@ fn changed_groups(alloc: Global, changes: &[GroupChange]) -> Result<Vec<GroupKey
     Ok(groups)
 }
 
-/// Appends the names that groups in use touch by these changes.
+/// Appends the names that groups touch by these changes to the members that the index has.
 pub(crate) fn push_moved(
     touched: &mut Vec<StreamName>,
+    index: &GroupIndex,
     c: &Cluster,
     changes: &[GroupChange],
 ) -> Result<(), NoMemory>
-    ensures { OnOk result (touched.new.items ≡ touched.old.items ++ names_of_moved changes.now c.now.cluster) }
+    ensures { OnOk result (touched.new.items ≡ touched.old.items ++ names_of_moved changes.now index.now c.now.cluster) }
 {
     let alloc = *touched.allocator();
     let moved = changed_groups(alloc, changes)?;
-    let moved = moved.as_slice();
-    push_moved_names(touched, moved, moved, c.policies(), c.egresses())
+    let spread = spread_groups(alloc, index, changes)?;
+    push_moved_names(
+        touched,
+        moved.as_slice(),
+        spread.as_slice(),
+        c.policies(),
+        c.egresses(),
+    )
 }

@@ -14,6 +14,7 @@ use crate::side::Side;
 use crate::telling::{NodeNames, Turn, all_turns};
 use cl_types::{NoMemory, Rev};
 use cluster_objects::Change;
+use node_objects::all_touched;
 use node_streams::{NodeCuts, NodePorts};
 use std::alloc::Global;
 use stream_messages::TitledName;
@@ -86,7 +87,22 @@ pub(crate) fn tell_all<P: Port + Drop>(
 {
     present.has_all_in_use();
     next.has_all_in_use();
-    let turns = all_turns(alloc, present, next, touched, rev, nodes.as_slice())?;
+    let touched = all_touched(
+        alloc,
+        &present.cluster,
+        &present.groups,
+        &next.cluster,
+        &next.groups,
+        touched,
+    )?;
+    let turns = all_turns(
+        alloc,
+        present,
+        next,
+        touched.as_slice(),
+        rev,
+        nodes.as_slice(),
+    )?;
     let mut listed = Vec::with_capacity(alloc, 3 * turns.len())?;
     let mut named = Vec::new(alloc);
     apply_all(alloc, present, changes, &mut named)?;

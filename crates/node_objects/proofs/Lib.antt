@@ -1,3 +1,4 @@
 mod Concerns
 mod Indexes
+mod Shared
 mod UnderNames

@@ -27,9 +27,10 @@ use Rattle.watch_streams.specs.OneOfAll.{all_of_both}
 use Rattle.watch_streams.specs.Projection.{egress_is_on, group_members, members_on, policy_groups, policy_is_on}
 use Rattle.touched_names.specs.Standing.{IsName, at_egress, at_policy, egress_object, group_standing, has_group, is_applied_on, is_group, is_peer_on, policy_object, standing}
 use Rattle.node_objects.specs.Indexed.{all_told, is_egress_on, is_policy_on, on_told}
+use Rattle.node_objects.specs.NodeLaws.{both_true}
 use Rattle.node_objects.specs.Sides.{IsInUse, IsSide, NamesInUse}
 use Rattle.node_objects.specs.UnderName.{applies_on, egress_applies_on, has_peer_on, some_applies_on, under_name}
-use Rattle.node_objects.proofs.Concerns.{all_told_is, any-same, both_true, on_told_is}
+use Rattle.node_objects.proofs.Concerns.{all_told_is, any-same, on_told_is}
 use Rattle.node_objects.proofs.Indexes.{egresses_same, policies_same}
 use Rattle.node_objects.specs.SideLaws.{TextsDiffer, parts, policy_forms}
 

@@ -53,7 +53,8 @@ fn told_on(alloc: Global, node: &Text, members: &[Member]) -> Result<Vec<HeldMem
     Ok(held)
 }
 
-fn members_in<'a>(groups: &'a GroupIndex, g: &GroupKey) -> &'a [Member]
+/// The members of a group, none where it is not in use. It does not allocate.
+pub fn members_in<'a>(groups: &'a GroupIndex, g: &GroupKey) -> &'a [Member]
     ensures { result.now ≡ indexed_members groups.now g.now }
 {
     match groups.members(g) {

@@ -4,21 +4,26 @@ ghost use Rattle.std.specs.List.{list_any};
 ghost use Rattle.cl_types.specs.Text.{text_eq};
 ghost use Rattle.cluster_types.specs.Choice.{egress_counts};
 ghost use Rattle.node_objects.specs.Indexed.{is_egress_on, is_policy_on};
+ghost use Rattle.node_objects.specs.Touched.{some_on};
 
 use cl_types::Text;
 use cluster_objects::Cluster;
 use cluster_types::{EgressObj, NodeInfo, Policy};
 use group_index::GroupIndex;
+use label_select::GroupKey;
+
+/// Whether a member of one of the groups is on the node.
+pub(crate) fn some_on(groups: &GroupIndex, node: &Text, applied: &[GroupKey]) -> bool
+    ensures { result ≡ some_on groups.now node.now applied.now }
+{
+    applied.iter().any(|g| groups.is_on(g, node))
+}
 
 /// Whether the policy applies to a member on the node.
 pub(crate) fn is_policy_on(groups: &GroupIndex, node: &Text, policy: &Policy) -> bool
     ensures { result ≡ is_policy_on groups.now node.now policy.now }
 {
-    policy
-        .applied
-        .as_slice()
-        .iter()
-        .any(|g| groups.is_on(g, node))
+    some_on(groups, node, policy.applied.as_slice())
 }
 
 fn is_listed(nodes: &[NodeInfo], name: &Text) -> bool

@@ -1,7 +1,8 @@
 use Rattle.std.proofs.Common.{◌≡◌, take}
-use Rattle.touched_names.specs.Elsewhere.{changes_under}
+use Rattle.std.specs.List.{flat_map}
+use Rattle.ctl_core.specs.Touched.{changed_under}
 use Rattle.ctl_core.proofs.telling.changes_under.Given as goal
 
--- the changes under the names so far
-abbrev pub invariant-loop-titled : goal.invariant-loop-titled
-invariant-loop-titled l = l.changes.items ≡ changes_under l.old.cluster.cluster l.new.cluster.cluster l.s l.node (take l.titled-index l.touched)
+-- what changes under the names so far
+abbrev pub invariant-loop-t : goal.invariant-loop-t
+invariant-loop-t l = l.changes.items ≡ flat_map (changed_under l.old.cluster.cluster l.new.cluster.cluster l.s l.node) (take l.t-index l.touched)

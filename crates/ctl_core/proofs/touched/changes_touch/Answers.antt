@@ -3,7 +3,6 @@ use Rattle.ctl_core.proofs.touched.changes_touch.Goals as goal
 pub returns : goal.returns
 returns c = record {
   moved = c.moved_groups_touch.ensures;
-  spans = c.members_tell_spans.ensures;
   put_policies = c.changed_rules_touch.ensures.put_policies;
   removed_policies = c.changed_rules_touch.ensures.removed_policies;
   put_egresses = c.changed_rules_touch.ensures.put_egresses;

@@ -1,4 +1,4 @@
-use Rattle.std.proofs.Common.{◌≡◌, false, true, ap, sym, subst, ◌∙◌}
+use Rattle.std.proofs.Common.{◌≡◌, false, true, refl, ap, sym, subst, ◌∙◌}
 use Rattle.cluster_objects.specs.declared.change.Undo.{Undo}
 use Rattle.cluster_objects.specs.Apply.{outcome}
 use Rattle.cluster_objects.specs.Changes.{key_of, standing}
@@ -71,3 +71,13 @@ returns-clause-touched c =
     (stands_before c.index_stands_before.ensures.pod_put c.index_stands_before.ensures.pod_removed c.index_stands_before.ensures.namespace_put c.index_stands_before.ensures.namespace_removed
     c.args.self.now.cluster.cluster c.args.change.now (outcome c.apply_kept.new.self.cluster c.in_ok-applied.field-0.applied) _ c.args.self.now.groups c.keeps_its_form.ensures.cluster differs.0 differs.1 follows old c.requires.counted.stands)
     c.args.touched.now.items c.follow.new.touched.items c.in_ok-follow.ensures.touched)
+
+pub returns-then-not-other_differs-clause-same : goal.returns-then-not-other_differs-clause-same
+returns-then-not-other_differs-clause-same c =
+    let none : other_differs c.in_ok-copy.field-0 c.in_ok-applied.field-0.applied ≡ false = rw c.in_ok-copy.ensures (sym c.other_differs.ensures ∙ c.if-not-other_differs.true) in
+    record {
+      cluster =
+          same_left c.changes_leave_the_rest.ensures.nodes c.changes_leave_the_rest.ensures.unchanged c.args.self.now.cluster.cluster c.in_ok-copy.field-0 (outcome c.apply_kept.new.self.cluster c.in_ok-applied.field-0.applied)
+          c.keeps_its_form.ensures.cluster c.requires.fixed c.in_ok-applied.ensures.follows none;
+      groups = refl;
+    }
